@@ -1,0 +1,13 @@
+// The exported services, for C callers (include/hirelog.h has the rules).
+ghost use mathlib.Core.Path.{_≡_};
+ghost use Rattle.sha256.specs.Service.{digestNumber, digestAfter};
+
+// SHA-256 (document 01, "Digest and signature"; FIPS 180-4): 0 and the digest of the message, or 16 for a
+// message of more than 16,777,216 bytes, with the digest as it was.
+#[no_mangle]
+pub extern "C" fn hirelog_sha256(message: &[u8], digest: &mut [u8; 32]) -> u32
+    ensures number { λ r. ⌜ r ≡ digestNumber (now (message .entry)) ⌝ }
+    ensures bytes { λ _. ⌜ now (digest .exit) ≡ digestAfter (now (message .entry)) (now (digest .entry)) ⌝ }
+{
+    sha256::digest(message, digest)
+}

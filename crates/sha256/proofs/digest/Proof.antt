@@ -1,0 +1,75 @@
+-- A long message is refused first; any other is hashed block by block and finished with its padding.
+-- Assumes nothing.
+use mathlib.Core.Path.{_≡_, sym, ap, _∙_}
+use mathlib.Core.List.{List, _++_}
+use Prim.Native.Nat.{ℕ, _-_, _*_, _/_}
+use native.Mathlib.Nat.{le-refl}
+use borrow.Author.Tests.{lt-ltb, le-ltb}
+use lib.ListN.{length, take, drop, length-drop}
+use lib.Seq.{take-all}
+use Rattle.sha256.specs.declared.State.{State}
+use Rattle.sha256.specs.Sha256.{initial, hash, padding}
+use Rattle.sha256.specs.Service.{limit, tooLong, digestNumber, digestAfter}
+use Rattle.sha256.proofs.Blocks.{sha256-split}
+use borrow.Author.Needs.{needs}
+use Rattle.sha256.proofs.digest.Statement.{statement}
+use Rattle.sha256.proofs.digest.Tie as tie
+
+returns : tie.Need-returns
+unfolding digestNumber digestAfter tooLong limit
+returns c =
+    let long = lt-ltb 16777216 (length (c .before .before .args .message .now)) (c .if1 .taken) in
+    (rw long, rw long)
+
+mul-whole : tie.Need-mul-whole
+mul-whole c = search needs
+
+new-requires : tie.Need-new-requires
+new-requires c κs = search needs
+
+absorb-all-requires : tie.Need-absorb-all-requires
+absorb-all-requires c κs = search needs
+
+sub-finish : tie.Need-sub-finish
+sub-finish c = search needs
+
+part-finish-start : tie.Need-part-finish-start
+part-finish-start c = search needs
+
+part-finish-end : tie.Need-part-finish-end
+part-finish-end c = search needs
+
+finish-requires : tie.Need-finish-requires
+finish-requires c κs = search needs
+
+bytes-requires : tie.Need-bytes-requires
+bytes-requires c κs = search needs
+
+returns-2 : tie.Need-returns-2
+unfolding digestNumber digestAfter tooLong limit
+returns-2 c =
+    let m = c .before .before .before .before .before .before .before .args .message .now in
+    let short = le-ltb 16777216 (length m) (c .before .before .before .before .before .if1 .left) in
+    let whole = c .before .before .before .absorb-all .result in
+    let absorbed : whole ≡ hash initial m =
+    c .before .before .before .absorb-all .ensures ∙ ap (λ (s : State). hash s m) (c .before .before .before .before .new .ensures) in
+    let at = length m / 64 * 64 in
+    let rest : take (length m - at) (drop at m) ≡ drop at m = take-all (length m - at) (drop at m) (rw length-drop (le-refl _)) in
+    let finished : c .before .finish .result ≡ hash whole (drop at m ++ padding (length m)) =
+    c .before .finish .ensures ∙ ap (λ (l : List ℕ). hash whole (l ++ padding (length m))) rest in
+    (rw short, rw (short, c .bytes .ensures, finished, absorbed) (sym (sha256-split m)))
+
+pub digest-spec : {M : Type 1} → statement M
+digest-spec =
+    tie.close
+    (tie.spec
+    returns
+    mul-whole
+    new-requires
+    absorb-all-requires
+    sub-finish
+    part-finish-start
+    part-finish-end
+    finish-requires
+    bytes-requires
+    returns-2)

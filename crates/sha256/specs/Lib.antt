@@ -1,0 +1,3 @@
+pub mod Constants
+pub mod Sha256
+pub mod Service

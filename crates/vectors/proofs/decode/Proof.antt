@@ -1,0 +1,66 @@
+-- `vectors::decode` meets its contract. The loop's invariant: `out` keeps its length, and the `n` bytes decoded so far fit it and took two digits each.
+-- The measure is the room that is left. Assumes nothing.
+use mathlib.Core.Path.{_≡_}
+use Prim.Native.Nat.{_+_, _-_, _≤_}
+use native.Mathlib.Omega.{arith}
+use lib.ListN.{length, length-set, length-take}
+use borrow.Author.Needs.{needs}
+use Rattle.vectors.proofs.decode.Statement.{statement}
+use Rattle.vectors.proofs.decode.Tie as tie
+
+abbrev Inv-loop : tie.InvT-loop
+Inv-loop digits out₀ n₀ out n = (length out ≡ length out₀) × ((n ≤ length out) × (n + n ≤ length digits))
+
+abbrev μ-loop : tie.MeasureT-loop
+μ-loop digits out₀ n₀ out n = length out₀ - n
+
+loop-holds : tie.Need-loop-holds Inv-loop μ-loop
+loop-holds c = search needs
+
+pair-requires : tie.Need-pair-requires Inv-loop μ-loop
+pair-requires c κs = search needs
+
+same-length : tie.Need-same-length Inv-loop μ-loop
+same-length c = search needs
+
+returns : tie.Need-returns Inv-loop μ-loop
+returns c = ((omega arith, simp length-take (omega arith)), omega arith)
+
+cast-out : tie.Need-cast-out Inv-loop μ-loop
+cast-out c = search needs
+
+slice-write-out : tie.Need-slice-write-out Inv-loop μ-loop
+slice-write-out c = search needs
+
+add-n : tie.Need-add-n Inv-loop μ-loop
+add-n c = search needs
+
+loop-less : tie.Need-loop-less Inv-loop μ-loop
+loop-less c = search needs
+
+loop-again : tie.Need-loop-again Inv-loop μ-loop
+loop-again c = simp length-set (omega (arith, c .before .pair .ensures (omega arith)))
+
+same-length-2 : tie.Need-same-length-2 Inv-loop μ-loop
+same-length-2 c = search needs
+
+returns-2 : tie.Need-returns-2 Inv-loop μ-loop
+returns-2 c = ((omega arith, simp length-take (omega arith)), omega arith)
+
+pub decode-spec : {M : Type 1} → statement M
+decode-spec =
+    tie.close
+    (tie.spec
+    Inv-loop
+    μ-loop
+    loop-holds
+    pair-requires
+    same-length
+    returns
+    cast-out
+    slice-write-out
+    add-n
+    loop-less
+    loop-again
+    same-length-2
+    returns-2)
