@@ -16,9 +16,9 @@ rounds-add zero n t w s = rw (zero-add, add-zero)
 rounds-add (suc m) n t w s =
     rw (suc-add, add-suc, ← suc-add t m) (rounds-add m n (suc t) w (round s (getD constants t 0) (getD w t 0)))
 
--- eight of the rounds that are left, as two runs of four
-pub rounds-eight : (i : ℕ) (w : List ℕ) (s : State) → i + 8 ≤ 64
-    → rounds (64 - i) i w s ≡ rounds (64 - (i + 8)) (i + 8) w (rounds 4 (i + 4) w (rounds 4 i w s))
-rounds-eight i w s h =
-    let count : 64 - i ≡ 4 + (4 + (64 - (i + 8))) = omega arith in
-    rw (count, rounds-add 4 (4 + (64 - (i + 8))) i w s, rounds-add 4 (64 - (i + 8)) (i + 4) w (rounds 4 i w s), add-assoc)
+-- four of the rounds that are left
+pub rounds-four : (i : ℕ) (w : List ℕ) (s : State) → i + 4 ≤ 64
+    → rounds (64 - i) i w s ≡ rounds (64 - (i + 4)) (i + 4) w (rounds 4 i w s)
+rounds-four i w s h =
+    let count : 64 - i ≡ 4 + (64 - (i + 4)) = omega arith in
+    rw (count, rounds-add 4 (64 - (i + 4)) i w s)

@@ -183,9 +183,8 @@ impl State {
         let mut s = self;
         let mut i = 0;
         while i < 64 {
-            let t = s.four(&k, w, i);
-            s = t.four(&k, w, i + 4);
-            i += 8;
+            s = s.four(&k, w, i);
+            i += 4;
         }
         s
     }
