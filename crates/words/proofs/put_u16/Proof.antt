@@ -1,3 +1,5 @@
+-- The stores are those of the definition's bytes, highest first.
+-- Assumes nothing.
 use native.Mathlib.Nat.{div-one}
 use native.Mathlib.Numerals.{towards-suc}
 use Rattle.words.specs.BigEndian.{be}

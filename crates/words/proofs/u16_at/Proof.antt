@@ -1,3 +1,5 @@
+-- The bytes read are those of the definition, each times its place.
+-- Assumes nothing.
 use native.Mathlib.Omega.{arith}
 use denote.Ref.{now}
 use Rattle.words.proofs.Laws.{numberAt-2}
