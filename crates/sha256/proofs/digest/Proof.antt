@@ -2,7 +2,7 @@
 -- Assumes nothing.
 use mathlib.Core.Path.{_≡_, sym, ap, _∙_}
 use mathlib.Core.List.{List, _++_}
-use Prim.Native.Nat.{ℕ, _-_, _*_, _/_}
+use Prim.Native.Nat.{ℕ, _<_, _-_, _*_, _/_}
 use native.Mathlib.Nat.{le-refl}
 use borrow.Author.Tests.{lt-ltb, le-ltb}
 use lib.ListN.{length, take, drop, length-drop}
@@ -15,11 +15,17 @@ use borrow.Author.Needs.{needs}
 use Rattle.sha256.proofs.digest.Statement.{statement}
 use Rattle.sha256.proofs.digest.Tie as tie
 
+-- a long message: number 16, and the buffer as it was
+long-number : (m : List ℕ) → 16777216 < length m → 16 ≡ digestNumber m
+unfolding digestNumber tooLong limit
+long-number m h = rw (lt-ltb 16777216 (length m) h)
+
+long-bytes : (m before : List ℕ) → 16777216 < length m → before ≡ digestAfter m before
+unfolding digestAfter tooLong limit
+long-bytes m before h = rw (lt-ltb 16777216 (length m) h)
+
 returns : tie.Need-returns
-unfolding digestNumber digestAfter tooLong limit
-returns c =
-    let long = lt-ltb 16777216 (length (c .before .before .args .message .now)) (c .if1 .taken) in
-    (rw long, rw long)
+returns c = search (long-number, long-bytes)
 
 mul-whole : tie.Need-mul-whole
 mul-whole c = search needs
