@@ -31,7 +31,8 @@ add-requires-8 c κs = search needs
 
 returns : tie.Need-returns
 unfolding plus
-returns c = cc
+returns c =
+    simp (c .add8 .ensures, c .before .add7 .ensures, c .before .before .add6 .ensures, c .before .before .before .add5 .ensures, c .before .before .before .before .add4 .ensures, c .before .before .before .before .before .add3 .ensures, c .before .before .before .before .before .before .add2 .ensures, c .before .before .before .before .before .before .before .add .ensures)
 
 pub plus-spec : {M : Type 1} → statement M
 plus-spec =
