@@ -1,16 +1,17 @@
 -- Words parsed one at a time, and blocks hashed in runs.
 -- Assumes nothing.
 use mathlib.Core.Path.{_≡_, refl, sym, ap, _∙_}
-use mathlib.Core.List.{List, [], _∷_, _++_}
+use mathlib.Core.List.{List, [], _∷_, _++_, append-assoc, flatMap}
 use Prim.Native.Nat.{ℕ, zero, suc, _+_, _-_, _*_, _/_, _≤_, _<_}
 use native.Mathlib.Nat.{not-suc-le-zero, zero-add, suc-add, add-zero, add-suc, add-assoc, mul-suc, mul-comm, add-comm}
 use native.Mathlib.Numerals.{add-one}
 use native.Mathlib.Omega.{arith}
-use lib.ListN.{length, take, drop, set, length-append, length-drop, drop-of-length-le}
-use lib.Seq.{drop-drop, take-suc-set, take-append-le, drop-append-le}
-use Rattle.words.specs.BigEndian.{number, numberAt}
+use lib.ListN.{length, take, drop, set, length-append, length-drop, length-replicate, drop-of-length-le}
+use lib.Seq.{length-take-le, take-add, drop-drop, take-suc-set, take-append-le, drop-append-le}
+use Rattle.words.specs.BigEndian.{number, numberAt, be, Bytes}
+use Rattle.words.proofs.Laws.{length-be, be-number, bytes-take, bytes-drop}
 use Rattle.sha256.specs.declared.State.{State}
-use Rattle.sha256.specs.Sha256.{parse, compress, blocks, hash, initial, padding, bytesOf, sha256}
+use Rattle.sha256.specs.Sha256.{parse, compress, blocks, hash, initial, zeros, padding, bytesOf, sha256}
 
 -- ---- words of a block
 
@@ -25,6 +26,22 @@ parse-snoc (suc i) xs =
 pub parse-step : (i : ℕ) (xs m : List ℕ) (x : ℕ) → i < length m → x ≡ numberAt 4 xs (4 * i) → take i m ≡ parse i xs
     → take (i + 1) (set m i x) ≡ parse (i + 1) xs
 parse-step i xs m x h e t = rw (add-one, take-suc-set m i x h, t, e, parse-snoc i xs)
+
+-- the first word at a place, then the others
+pub parse-at : (n : ℕ) (xs : List ℕ) (at : ℕ) → parse (suc n) (drop at xs) ≡ numberAt 4 xs at ∷ parse n (drop (at + 4) xs)
+unfolding parse numberAt
+parse-at n xs at = rw drop-drop
+
+-- the bytes of the words are the list's
+pub bytes-parse : (n : ℕ) (xs : List ℕ) → Bytes xs → 4 * n ≤ length xs → flatMap (be 4) (parse n xs) ≡ take (4 * n) xs
+unfolding parse flatMap
+bytes-parse zero xs b h = refl
+bytes-parse (suc n) xs b h =
+    let four : 4 ≤ length xs = omega (arith, mul-suc 4 n) in
+    let more : 4 * n ≤ length (drop 4 xs) = simp length-drop (omega (arith, mul-suc 4 n)) in
+    let word : be 4 (number (take 4 xs)) ≡ take 4 xs =
+    ap (λ (k : ℕ). be k (number (take 4 xs))) (sym (length-take-le 4 xs four)) ∙ be-number (bytes-take 4 xs b) in
+    rw (word, bytes-parse n (drop 4 xs) (bytes-drop 4 xs b) more, mul-suc, add-comm (4 * n) 4, take-add 4 (4 * n) xs)
 
 -- ---- blocks in runs
 
@@ -93,3 +110,27 @@ pub sha256-split : (m : List ℕ)
 unfolding sha256
 sha256-split m =
     rw (hash-rest (length m / 64) initial m (padding (length m)) (omega arith) (omega arith), mul-comm 64 (length m / 64))
+
+-- a message of fewer than 56 bytes takes one block
+pub sha256-one : (m : List ℕ) (n : ℕ) → length m ≡ n → n < 56 → sha256 m ≡ bytesOf (compress initial (parse 16 (m ++ padding n)))
+unfolding sha256 padding zeros
+sha256-one m n e h =
+    let long : length (m ++ padding n) ≡ 64 = simp (length-append, length-replicate, length-be, e) (omega arith) in
+    rw e (ap bytesOf (hash-one initial (m ++ padding n) long))
+
+-- the digest of a first block and what follows it
+pub sha256-head : (first rest : List ℕ) → length first ≡ 64
+    → sha256 (first ++ rest)
+    ≡ bytesOf (hash (hash (compress initial (parse 16 first)) rest) (drop (length rest / 64 * 64) rest ++ padding (64 + length rest)))
+unfolding sha256
+sha256-head first rest h =
+    let count : length (first ++ rest) ≡ 64 + length rest = length-append first rest ∙ ap (λ (n : ℕ). n + length rest) h in
+    rw (
+      count,
+      append-assoc,
+      hash-rest 1 initial first (rest ++ padding (64 + length rest)) (omega arith) (omega arith),
+      drop-of-length-le first {i = 64} (omega arith),
+      hash-one initial first h,
+      hash-rest (length rest / 64) (compress initial (parse 16 first)) rest (padding (64 + length rest)) (omega arith) (omega arith),
+      mul-comm 64 (length rest / 64),
+    )

@@ -1,3 +1,4 @@
+mod Bitwise
 pub mod Blocks
 pub mod Examples
 mod Extend

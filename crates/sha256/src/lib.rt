@@ -6,7 +6,6 @@ ghost use mathlib.Core.List.{_∷_, _++_, flatMap};
 ghost use lib.ListN.{length, take, drop, replicate};
 ghost use Rattle.words.specs.BigEndian.{be};
 ghost use Rattle.sha256.specs.Sha256 as fips;
-ghost use Rattle.sha256.specs.Constants.{constants};
 ghost use Rattle.sha256.specs.Service.{digestNumber, digestAfter};
 
 mod functions;
@@ -164,29 +163,131 @@ impl State {
         }
     }
 
-    // Four rounds from round i on.
-    fn four(self, k: &[u32; 64], w: &[u32; 64], i: usize) -> State
-        requires { ⌜ (i + 4 ≤ 64) × (now k ≡ constants) ⌝ }
-        ensures { λ r. ⌜ r ≡ fips.rounds 4 i (now (w .entry)) self ⌝ }
+    // Rounds 0 to 7.
+    fn rounds_0(self, w: &[u32; 64]) -> State
+        ensures { λ r. ⌜ r ≡ fips.rounds 8 0 (now (w .entry)) self ⌝ }
     {
-        let s = self.round(k[i], w[i]);
-        let t = s.round(k[i + 1], w[i + 1]);
-        let u = t.round(k[i + 2], w[i + 2]);
-        u.round(k[i + 3], w[i + 3])
+        self.round(K[0], w[0])
+            .round(K[1], w[1])
+            .round(K[2], w[2])
+            .round(K[3], w[3])
+            .round(K[4], w[4])
+            .round(K[5], w[5])
+            .round(K[6], w[6])
+            .round(K[7], w[7])
     }
 
-    // The sixty-four rounds (FIPS 180-4, 6.2.2, steps 2 and 3).
+    // Rounds 8 to 15.
+    fn rounds_8(self, w: &[u32; 64]) -> State
+        ensures { λ r. ⌜ r ≡ fips.rounds 8 8 (now (w .entry)) self ⌝ }
+    {
+        self.round(K[8], w[8])
+            .round(K[9], w[9])
+            .round(K[10], w[10])
+            .round(K[11], w[11])
+            .round(K[12], w[12])
+            .round(K[13], w[13])
+            .round(K[14], w[14])
+            .round(K[15], w[15])
+    }
+
+    // Rounds 16 to 23.
+    fn rounds_16(self, w: &[u32; 64]) -> State
+        ensures { λ r. ⌜ r ≡ fips.rounds 8 16 (now (w .entry)) self ⌝ }
+    {
+        self.round(K[16], w[16])
+            .round(K[17], w[17])
+            .round(K[18], w[18])
+            .round(K[19], w[19])
+            .round(K[20], w[20])
+            .round(K[21], w[21])
+            .round(K[22], w[22])
+            .round(K[23], w[23])
+    }
+
+    // Rounds 24 to 31.
+    fn rounds_24(self, w: &[u32; 64]) -> State
+        ensures { λ r. ⌜ r ≡ fips.rounds 8 24 (now (w .entry)) self ⌝ }
+    {
+        self.round(K[24], w[24])
+            .round(K[25], w[25])
+            .round(K[26], w[26])
+            .round(K[27], w[27])
+            .round(K[28], w[28])
+            .round(K[29], w[29])
+            .round(K[30], w[30])
+            .round(K[31], w[31])
+    }
+
+    // Rounds 32 to 39.
+    fn rounds_32(self, w: &[u32; 64]) -> State
+        ensures { λ r. ⌜ r ≡ fips.rounds 8 32 (now (w .entry)) self ⌝ }
+    {
+        self.round(K[32], w[32])
+            .round(K[33], w[33])
+            .round(K[34], w[34])
+            .round(K[35], w[35])
+            .round(K[36], w[36])
+            .round(K[37], w[37])
+            .round(K[38], w[38])
+            .round(K[39], w[39])
+    }
+
+    // Rounds 40 to 47.
+    fn rounds_40(self, w: &[u32; 64]) -> State
+        ensures { λ r. ⌜ r ≡ fips.rounds 8 40 (now (w .entry)) self ⌝ }
+    {
+        self.round(K[40], w[40])
+            .round(K[41], w[41])
+            .round(K[42], w[42])
+            .round(K[43], w[43])
+            .round(K[44], w[44])
+            .round(K[45], w[45])
+            .round(K[46], w[46])
+            .round(K[47], w[47])
+    }
+
+    // Rounds 48 to 55.
+    fn rounds_48(self, w: &[u32; 64]) -> State
+        ensures { λ r. ⌜ r ≡ fips.rounds 8 48 (now (w .entry)) self ⌝ }
+    {
+        self.round(K[48], w[48])
+            .round(K[49], w[49])
+            .round(K[50], w[50])
+            .round(K[51], w[51])
+            .round(K[52], w[52])
+            .round(K[53], w[53])
+            .round(K[54], w[54])
+            .round(K[55], w[55])
+    }
+
+    // Rounds 56 to 63.
+    fn rounds_56(self, w: &[u32; 64]) -> State
+        ensures { λ r. ⌜ r ≡ fips.rounds 8 56 (now (w .entry)) self ⌝ }
+    {
+        self.round(K[56], w[56])
+            .round(K[57], w[57])
+            .round(K[58], w[58])
+            .round(K[59], w[59])
+            .round(K[60], w[60])
+            .round(K[61], w[61])
+            .round(K[62], w[62])
+            .round(K[63], w[63])
+    }
+
+    // The sixty-four rounds (FIPS 180-4, 6.2.2, steps 2 and 3), written out, so that the compiler mixes
+    // them with the schedule's words.
     fn rounds(self, w: &[u32; 64]) -> State
         ensures { λ r. ⌜ r ≡ fips.rounds 64 0 (now (w .entry)) self ⌝ }
     {
-        let k = K;
-        let mut s = self;
-        let mut i = 0;
-        while i < 64 {
-            s = s.four(&k, w, i);
-            i += 4;
-        }
-        s
+        self.rounds_0(w)
+            .rounds_8(w)
+            .rounds_16(w)
+            .rounds_24(w)
+            .rounds_32(w)
+            .rounds_40(w)
+            .rounds_48(w)
+            .rounds_56(w)
     }
 
     // The hash value after one more block of sixteen words (FIPS 180-4, 6.2.2).
@@ -245,7 +346,7 @@ impl State {
 }
 
 // The sixteen words of the block at a place (FIPS 180-4, 5.2.1).
-fn block_at(bytes: &[u8], at: usize) -> [u32; 16]
+pub fn block_at(bytes: &[u8], at: usize) -> [u32; 16]
     requires { ⌜ at + 64 ≤ length (now bytes) ⌝ }
     ensures { λ r. ⌜ r ≡ fips.parse 16 (drop at (now (bytes .entry))) ⌝ }
 {

@@ -1,5 +1,8 @@
 // The message schedule (FIPS 180-4, 6.2.2, step 1).
 ghost use mathlib.Core.Path.{_≡_};
+ghost use mathlib.Core.List.{List};
+ghost use Prim.Native.Nat.{ℕ, _+_, _-_, _≤_, _<_};
+ghost use lib.ListN.{length, take};
 ghost use Rattle.sha256.specs.Sha256 as fips;
 ghost use Rattle.sha256.specs.Sha256.{_⊞_, σ₀, σ₁};
 use super::functions::add;
@@ -13,19 +16,96 @@ fn next(w16: u32, w15: u32, w7: u32, w2: u32) -> u32
     add(add(add(small_sigma1(w2), w7), small_sigma0(w15)), w16)
 }
 
-// The sixty-four words of a block's schedule.
+// The word at place t, after which one word more is the schedule's.
+fn word(w: &mut [u32; 64], t: usize)
+    requires { ⌜ (16 ≤ t) × (t < 64) ⌝ }
+    ensures { λ _. ⌜ ((m : List ℕ) → (length (now (w .entry)) ≡ 64) × (take t (now (w .entry)) ≡ fips.extend (t - 16) m)
+        → (length (now (w .exit)) ≡ 64) × (take (t + 1) (now (w .exit)) ≡ fips.extend (t + 1 - 16) m)) ⌝ }
+{
+    w[t] = next(w[t - 16], w[t - 15], w[t - 7], w[t - 2]);
+}
+
+// The words at places 16 to 31.
+fn words_16(w: &mut [u32; 64])
+    ensures { λ _. ⌜ ((m : List ℕ) → (length (now (w .entry)) ≡ 64) × (take 16 (now (w .entry)) ≡ fips.extend 0 m)
+        → (length (now (w .exit)) ≡ 64) × (take 32 (now (w .exit)) ≡ fips.extend 16 m)) ⌝ }
+{
+    word(w, 16);
+    word(w, 17);
+    word(w, 18);
+    word(w, 19);
+    word(w, 20);
+    word(w, 21);
+    word(w, 22);
+    word(w, 23);
+    word(w, 24);
+    word(w, 25);
+    word(w, 26);
+    word(w, 27);
+    word(w, 28);
+    word(w, 29);
+    word(w, 30);
+    word(w, 31);
+}
+
+// The words at places 32 to 47.
+fn words_32(w: &mut [u32; 64])
+    ensures { λ _. ⌜ ((m : List ℕ) → (length (now (w .entry)) ≡ 64) × (take 32 (now (w .entry)) ≡ fips.extend 16 m)
+        → (length (now (w .exit)) ≡ 64) × (take 48 (now (w .exit)) ≡ fips.extend 32 m)) ⌝ }
+{
+    word(w, 32);
+    word(w, 33);
+    word(w, 34);
+    word(w, 35);
+    word(w, 36);
+    word(w, 37);
+    word(w, 38);
+    word(w, 39);
+    word(w, 40);
+    word(w, 41);
+    word(w, 42);
+    word(w, 43);
+    word(w, 44);
+    word(w, 45);
+    word(w, 46);
+    word(w, 47);
+}
+
+// The words at places 48 to 63.
+fn words_48(w: &mut [u32; 64])
+    ensures { λ _. ⌜ ((m : List ℕ) → (length (now (w .entry)) ≡ 64) × (take 48 (now (w .entry)) ≡ fips.extend 32 m)
+        → (length (now (w .exit)) ≡ 64) × (take 64 (now (w .exit)) ≡ fips.extend 48 m)) ⌝ }
+{
+    word(w, 48);
+    word(w, 49);
+    word(w, 50);
+    word(w, 51);
+    word(w, 52);
+    word(w, 53);
+    word(w, 54);
+    word(w, 55);
+    word(w, 56);
+    word(w, 57);
+    word(w, 58);
+    word(w, 59);
+    word(w, 60);
+    word(w, 61);
+    word(w, 62);
+    word(w, 63);
+}
+
+// The sixty-four words of a block's schedule, written out, so that the compiler keeps them in registers.
 pub fn schedule(m: [u32; 16]) -> [u32; 64]
     ensures { λ r. ⌜ r ≡ fips.schedule m ⌝ }
 {
     let mut w = [0u32; 64];
     let mut i = 0;
-    'copy: while i < 16 {
+    while i < 16 {
         w[i] = m[i];
         i += 1;
     }
-    'fill: while i < 64 {
-        w[i] = next(w[i - 16], w[i - 15], w[i - 7], w[i - 2]);
-        i += 1;
-    }
+    words_16(&mut w);
+    words_32(&mut w);
+    words_48(&mut w);
     w
 }

@@ -2,15 +2,15 @@
 -- Assumes nothing.
 use mathlib.Core.Path.{_≡_, refl, sym, ap, _∙_}
 use mathlib.Core.List.{List, [], _∷_, _++_}
-use Prim.Native.Nat.{ℕ, zero, suc, _+_, _*_, _/_, _%_, _^_, _≤_, _<_}
-use native.Mathlib.Nat.{zero-add, suc-add, pow-le-pow-right, div-eq-of-lt, lt-of-lt-of-le, add-assoc, mod-lt, mod-one, mod-eq-of-lt, pow-suc, pow-succ'}
+use Prim.Native.Nat.{ℕ, zero, suc, _+_, _-_, _*_, _/_, _%_, _^_, _≤_, _<_}
+use native.Mathlib.Nat.{add-zero, add-suc, add-comm, add-mul-div-right, mul-add-mod-self-right, le-refl, zero-mul, add-mul, mul-assoc, zero-add, suc-add, pow-le-pow-right, div-eq-of-lt, lt-of-lt-of-le, add-assoc, mod-lt, mod-one, mod-eq-of-lt, pow-suc, pow-succ'}
 use native.Mathlib.Numerals.{add-one}
 use native.Mathlib.Omega.{arith}
-use lib.Arith.{mod-mul, digits-lt}
-use lib.Pow.{pow-pos, pow-add}
+use lib.Arith.{mod-mul, digits-lt, digits-div}
+use lib.Pow.{pow-add}
 use lib.Dec.{lit<}
-use lib.ListN.{length, take, drop, getD, length-take, length-drop, length-append, replicate}
-use lib.Seq.{drop-cons, drop-drop, drop-append-le, take-append-le}
+use lib.ListN.{length, take, drop, getD, length-take, length-drop, length-append, replicate, set}
+use lib.Seq.{drop-cons, drop-drop, drop-append-le, take-append-le, take-all, take-at, length-take-le, sets, sets-eq}
 use Rattle.words.specs.BigEndian.{number, be, numberAt, Bytes, none, more}
 
 -- ---- powers of 256
@@ -49,6 +49,12 @@ pub number-lt : {bs : List ℕ} → Bytes bs → number bs < 256 ^ length bs
 unfolding number
 number-lt none = lit< tt
 number-lt (more {b = b} {bs = bs} h t) = rw pow-succ' (digits-lt h (number-lt t))
+
+pub number-append : (xs ys : List ℕ) → number (xs ++ ys) ≡ number xs * 256 ^ length ys + number ys
+unfolding number
+number-append [] ys = rw (zero-mul, zero-add)
+number-append (x ∷ xs) ys =
+    rw (number-append xs ys, length-append xs ys, pow-add 256 (length xs) (length ys), add-mul, mul-assoc, add-assoc)
 
 -- ---- a number at a place
 
@@ -96,3 +102,61 @@ be-pad zero w n h = rw zero-add
 be-pad (suc k) w n h =
     let more : 256 ^ w ≤ 256 ^ (k + w) = pow-le-pow-right (lit< tt) (omega arith) in
     rw (suc-add, div-eq-of-lt (lt-of-lt-of-le h more), be-pad k w n h)
+
+-- ---- the end of a list
+
+-- a part that ends where the list does
+pub part-end : (l : List ℕ) (n : ℕ) → take (length l - n) (drop n l) ≡ drop n l
+part-end l n = take-all (length l - n) (drop n l) (rw length-drop (le-refl (length l - n)))
+
+-- ---- bytes back from their number
+
+-- more than the lowest bytes does not count
+be-low : (w q r : ℕ) → be w (q * 256 ^ w + r) ≡ be w r
+unfolding be
+be-low zero q r = refl
+be-low (suc w) q r =
+    let whole : q * 256 ^ suc w ≡ q * 256 * 256 ^ w = rw (pow-succ', mul-assoc) in
+    let first : (q * 256 * 256 ^ w + r) / 256 ^ w % 256 ≡ r / 256 ^ w % 256 =
+    rw (
+      add-comm (q * 256 * 256 ^ w) r,
+      add-mul-div-right r (q * 256) (pow-256-pos w),
+      add-comm (r / 256 ^ w) (q * 256),
+      mul-add-mod-self-right q 256 (r / 256 ^ w),
+    ) in
+    rw (whole, first, be-low w (q * 256) r)
+
+pub be-number : {bs : List ℕ} → Bytes bs → be (length bs) (number bs) ≡ bs
+unfolding be number
+be-number none = refl
+be-number (more {b = b} {bs = bs} h t) =
+    rw (digits-div b (number-lt t), mod-eq-of-lt h, be-low (length bs) b (number bs), be-number t)
+
+-- ---- lists of bytes
+
+pub bytes-each : (l : List ℕ) → ((i : ℕ) → getD l i 0 < 256) → Bytes l
+bytes-each [] h = none
+bytes-each (x ∷ xs) h = more (h 0) (bytes-each xs (λ i. h (suc i)))
+
+pub bytes-drop : (n : ℕ) (l : List ℕ) → Bytes l → Bytes (drop n l)
+bytes-drop zero l h = h
+bytes-drop (suc n) [] h = none
+bytes-drop (suc n) (x ∷ xs) (more b t) = bytes-drop n xs t
+
+pub bytes-take : (n : ℕ) (l : List ℕ) → Bytes l → Bytes (take n l)
+bytes-take zero l h = none
+bytes-take (suc n) [] h = none
+bytes-take (suc n) (x ∷ xs) (more b t) = more b (bytes-take n xs t)
+
+-- ---- runs of stores
+
+pub sets-append : (l : List ℕ) (i : ℕ) (xs ys : List ℕ) → sets l i (xs ++ ys) ≡ sets (sets l i xs) (i + length xs) ys
+sets-append l i [] ys = rw add-zero
+sets-append l i (x ∷ xs) ys = rw (add-suc, ← suc-add) (sets-append (set l i x) (suc i) xs ys)
+
+-- what stands before and in a run of stores
+pub take-sets : (l vs : List ℕ) (k : ℕ) → k + length vs ≤ length l → take (k + length vs) (sets l k vs) ≡ take k l ++ vs
+take-sets l vs k h =
+    let long : length (take k l ++ vs) ≡ k + length vs =
+    length-append (take k l) vs ∙ ap (λ (n : ℕ). n + length vs) (length-take-le k l (omega arith)) in
+    rw (sets-eq vs l k h) (take-at (take k l ++ vs) (drop (k + length vs) l) (k + length vs) long)

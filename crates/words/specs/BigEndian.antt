@@ -1,7 +1,9 @@
 -- Big-endian unsigned numbers as lists of bytes (document 01, "The parts ordered": u16 is 2 bytes, u32 is 4).
 -- Width is the count of bytes, and stays a parameter.
+use mathlib.Core.Bool.{Bool, true, false, cond}
 use mathlib.Core.List.{List, [], _∷_}
 use Prim.Native.Nat.{ℕ, zero, suc, _+_, _*_, _/_, _%_, _^_, _<_}
+use lib.Dec.{eqb}
 use lib.ListN.{length, take, drop}
 
 -- the number that a list of bytes stands for, highest byte first
@@ -22,3 +24,10 @@ numberAt width bytes at = number (take width (drop at bytes))
 pub data Bytes : List ℕ → Type 0 where
   none : Bytes []
   more : {b : ℕ} {bs : List ℕ} → b < 256 → Bytes bs → Bytes (b ∷ bs)
+
+-- whether two lists of bytes are the same
+unfoldable pub same : List ℕ → List ℕ → Bool
+same [] [] = true
+same [] (y ∷ ys) = false
+same (x ∷ xs) [] = false
+same (x ∷ xs) (y ∷ ys) = cond (eqb x y) (same xs ys) false

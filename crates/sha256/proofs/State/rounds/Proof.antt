@@ -1,47 +1,60 @@
--- Four rounds a turn: the rounds that are left give what all of them give.
+-- Eight runs of eight rounds.
 -- Assumes nothing.
-use Prim.Native.Nat.{_≤_, _+_, _-_, _%_}
-use mathlib.Core.Path.{_≡_, refl}
-use native.Mathlib.Omega.{arith}
+use Rattle.sha256.proofs.Rounds.{rounds-eights}
+use mathlib.Core.Path.{sym}
 use borrow.Author.Needs.{needs}
-use Rattle.sha256.specs.Constants.{constants}
-use Rattle.sha256.specs.Sha256.{rounds}
-use Rattle.sha256.proofs.Rounds.{rounds-four}
 use Rattle.sha256.proofs.State.rounds.Statement.{statement}
 use Rattle.sha256.proofs.State.rounds.Tie as tie
 
-abbrev Inv-loop : tie.InvT-loop
-Inv-loop w k s₀ i₀ s i = (i ≤ 64) × (i % 4 ≡ 0) × (rounds (64 - i) i w s ≡ rounds 64 0 w s₀)
+rounds-0-requires : tie.Need-rounds-0-requires
+rounds-0-requires c κs = search needs
 
-abbrev μ-loop : tie.MeasureT-loop
-μ-loop w k s₀ i₀ s i = 64 - i
+rounds-8-requires : tie.Need-rounds-8-requires
+rounds-8-requires c κs = search needs
 
-loop-holds : tie.Need-loop-holds Inv-loop μ-loop
-loop-holds c = (search needs, refl, refl)
+rounds-16-requires : tie.Need-rounds-16-requires
+rounds-16-requires c κs = search needs
 
-four-requires : tie.Need-four-requires Inv-loop μ-loop
-unfolding constants
-four-requires c κs = (omega arith, refl)
+rounds-24-requires : tie.Need-rounds-24-requires
+rounds-24-requires c κs = search needs
 
-add-i : tie.Need-add-i Inv-loop μ-loop
-add-i c = omega arith
+rounds-32-requires : tie.Need-rounds-32-requires
+rounds-32-requires c κs = search needs
 
-loop-less : tie.Need-loop-less Inv-loop μ-loop
-loop-less c = omega arith
+rounds-40-requires : tie.Need-rounds-40-requires
+rounds-40-requires c κs = search needs
 
-loop-again : tie.Need-loop-again Inv-loop μ-loop
-loop-again c =
-    let l = c .before .before .before .loop in
-    let w = c .before .before .before .before .args .w .now in
-    (omega arith, omega arith, rw (c .four .ensures, ← rounds-four (l .i) w (l .s) (omega arith)) (l .inv .2))
+rounds-48-requires : tie.Need-rounds-48-requires
+rounds-48-requires c κs = search needs
 
-returns : tie.Need-returns Inv-loop μ-loop
-unfolding rounds
+rounds-56-requires : tie.Need-rounds-56-requires
+rounds-56-requires c κs = search needs
+
+returns : tie.Need-returns
 returns c =
-    let end : c .before .loop .i ≡ 64 = omega arith in
-    rw end at (c .before .loop .inv .2)
+    let a = c .before .before .before .before .before .before .before .before .args in
+    simp (
+      c .rounds-56 .ensures,
+      c .before .rounds-48 .ensures,
+      c .before .before .rounds-40 .ensures,
+      c .before .before .before .rounds-32 .ensures,
+      c .before .before .before .before .rounds-24 .ensures,
+      c .before .before .before .before .before .rounds-16 .ensures,
+      c .before .before .before .before .before .before .rounds-8 .ensures,
+      c .before .before .before .before .before .before .before .rounds-0 .ensures,
+    )
+    (sym (rounds-eights (a .w .now) (a .self)))
 
 pub rounds-spec : {M : Type 1} → statement M
 rounds-spec =
     tie.close
-    (tie.spec Inv-loop μ-loop loop-holds four-requires add-i loop-less loop-again returns)
+    (tie.spec
+    rounds-0-requires
+    rounds-8-requires
+    rounds-16-requires
+    rounds-24-requires
+    rounds-32-requires
+    rounds-40-requires
+    rounds-48-requires
+    rounds-56-requires
+    returns)

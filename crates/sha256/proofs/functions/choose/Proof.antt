@@ -1,13 +1,11 @@
--- The code is the definition, operation by operation.
+-- The short form is the definition's, digit by digit.
 -- Assumes nothing.
-use Rattle.sha256.specs.Sha256.{ch}
-use mathlib.Core.Path.{refl}
+use Rattle.sha256.proofs.Bitwise.{ch-short}
 use Rattle.sha256.proofs.functions.choose.Statement.{statement}
 use Rattle.sha256.proofs.functions.choose.Tie as tie
 
 returns : tie.Need-returns
-unfolding ch
-returns c = refl
+returns c = ch-short (c .args .x) (c .args .y) (c .args .z) (c .fits .x .fits) (c .fits .y .fits) (c .fits .z .fits)
 
 pub choose-spec : {M : Type 1} → statement M
 choose-spec = tie.close (tie.spec returns)

@@ -1,0 +1,94 @@
+-- Sixteen words, one after the other.
+-- Assumes nothing.
+use borrow.Author.Needs.{needs}
+use Rattle.sha256.proofs.schedule.words_48.Statement.{statement}
+use Rattle.sha256.proofs.schedule.words_48.Tie as tie
+
+word-requires : tie.Need-word-requires
+word-requires c κs = search needs
+
+word-requires-2 : tie.Need-word-requires-2
+word-requires-2 c κs = search needs
+
+word-requires-3 : tie.Need-word-requires-3
+word-requires-3 c κs = search needs
+
+word-requires-4 : tie.Need-word-requires-4
+word-requires-4 c κs = search needs
+
+word-requires-5 : tie.Need-word-requires-5
+word-requires-5 c κs = search needs
+
+word-requires-6 : tie.Need-word-requires-6
+word-requires-6 c κs = search needs
+
+word-requires-7 : tie.Need-word-requires-7
+word-requires-7 c κs = search needs
+
+word-requires-8 : tie.Need-word-requires-8
+word-requires-8 c κs = search needs
+
+word-requires-9 : tie.Need-word-requires-9
+word-requires-9 c κs = search needs
+
+word-requires-10 : tie.Need-word-requires-10
+word-requires-10 c κs = search needs
+
+word-requires-11 : tie.Need-word-requires-11
+word-requires-11 c κs = search needs
+
+word-requires-12 : tie.Need-word-requires-12
+word-requires-12 c κs = search needs
+
+word-requires-13 : tie.Need-word-requires-13
+word-requires-13 c κs = search needs
+
+word-requires-14 : tie.Need-word-requires-14
+word-requires-14 c κs = search needs
+
+word-requires-15 : tie.Need-word-requires-15
+word-requires-15 c κs = search needs
+
+word-requires-16 : tie.Need-word-requires-16
+word-requires-16 c κs = search needs
+
+returns : tie.Need-returns
+returns c m e =
+    let e1 = c .before .before .before .before .before .before .before .before .before .before .before .before .before .before .before .before .before .before .before .before .before .before .before .before .before .before .before .before .before .before .word .ensures m e in
+    let e2 = c .before .before .before .before .before .before .before .before .before .before .before .before .before .before .before .before .before .before .before .before .before .before .before .before .before .before .before .before .word2 .ensures m e1 in
+    let e3 = c .before .before .before .before .before .before .before .before .before .before .before .before .before .before .before .before .before .before .before .before .before .before .before .before .before .before .word3 .ensures m e2 in
+    let e4 = c .before .before .before .before .before .before .before .before .before .before .before .before .before .before .before .before .before .before .before .before .before .before .before .before .word4 .ensures m e3 in
+    let e5 = c .before .before .before .before .before .before .before .before .before .before .before .before .before .before .before .before .before .before .before .before .before .before .word5 .ensures m e4 in
+    let e6 = c .before .before .before .before .before .before .before .before .before .before .before .before .before .before .before .before .before .before .before .before .word6 .ensures m e5 in
+    let e7 = c .before .before .before .before .before .before .before .before .before .before .before .before .before .before .before .before .before .before .word7 .ensures m e6 in
+    let e8 = c .before .before .before .before .before .before .before .before .before .before .before .before .before .before .before .before .word8 .ensures m e7 in
+    let e9 = c .before .before .before .before .before .before .before .before .before .before .before .before .before .before .word9 .ensures m e8 in
+    let e10 = c .before .before .before .before .before .before .before .before .before .before .before .before .word10 .ensures m e9 in
+    let e11 = c .before .before .before .before .before .before .before .before .before .before .word11 .ensures m e10 in
+    let e12 = c .before .before .before .before .before .before .before .before .word12 .ensures m e11 in
+    let e13 = c .before .before .before .before .before .before .word13 .ensures m e12 in
+    let e14 = c .before .before .before .before .word14 .ensures m e13 in
+    let e15 = c .before .before .word15 .ensures m e14 in
+    c .word16 .ensures m e15
+
+pub words-48-spec : {M : Type 1} → statement M
+words-48-spec =
+    tie.close
+    (tie.spec
+    word-requires
+    word-requires-2
+    word-requires-3
+    word-requires-4
+    word-requires-5
+    word-requires-6
+    word-requires-7
+    word-requires-8
+    word-requires-9
+    word-requires-10
+    word-requires-11
+    word-requires-12
+    word-requires-13
+    word-requires-14
+    word-requires-15
+    word-requires-16
+    returns)
