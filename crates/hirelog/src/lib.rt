@@ -1,6 +1,7 @@
 // The exported services, for C callers (include/hirelog.h has the rules).
 ghost use mathlib.Core.Path.{_≡_};
 ghost use Rattle.sha256.specs.Service.{digestNumber, digestAfter};
+ghost use Rattle.lms.specs.Check.{answer, answerNumber};
 
 // SHA-256 (document 01, "Digest and signature"; FIPS 180-4): 0 and the digest of the message, or 16 for a
 // message of more than 16,777,216 bytes, with the digest as it was.
@@ -10,4 +11,13 @@ pub extern "C" fn hirelog_sha256(message: &[u8], digest: &mut [u8; 32]) -> u32
     ensures bytes { λ _. ⌜ now (digest .exit) ≡ digestAfter (now (message .entry)) (now (digest .entry)) ⌝ }
 {
     sha256::digest(message, digest)
+}
+
+// The LMS signature check (document 01, "Digest and signature"; RFC 8554): 0 for good, 15 for bad, and 16, before
+// anything else, for a message of more than 16,777,216 bytes.
+#[no_mangle]
+pub extern "C" fn hirelog_lms_check(key: &[u8], message: &[u8], signature: &[u8]) -> u32
+    ensures { λ r. ⌜ r ≡ answerNumber (answer (now (key .entry)) (now (message .entry)) (now (signature .entry))) ⌝ }
+{
+    lms::number_of(lms::check(key, message, signature))
 }

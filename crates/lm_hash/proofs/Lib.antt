@@ -1,0 +1,2 @@
+mod Heads
+pub mod Values

@@ -1,0 +1,4 @@
+pub mod Figures
+pub mod Rows
+mod StepBlock
+pub mod Widths

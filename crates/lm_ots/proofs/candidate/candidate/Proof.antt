@@ -1,0 +1,112 @@
+-- The hashes of algorithm 4b, step 3, one after the other.
+-- Assumes nothing.
+use Prim.Native.Nat.{ℕ, _-_, _*_}
+use mathlib.Core.Path.{_≡_, ap, _∙_}
+use mathlib.Core.List.{List, _++_}
+use native.Mathlib.Omega.{arith}
+use lib.Dec.{lit<}
+use lib.ListN.{length, take, drop, length-take, length-drop}
+use Rattle.words.proofs.Laws.{part-end}
+use Rattle.lm_hash.specs.Identifier.{identifier}
+use Rattle.lm_hash.specs.Tagged.{tagged}
+use Rattle.lm_ots.specs.Digits.{withChecksum}
+use Rattle.lm_ots.specs.Candidate.{D-MESG, D-PBLC, ends, candidate}
+use Rattle.lm_ots.proofs.Rows.{width, few, shift-below}
+use borrow.Author.Needs.{needs}
+use Rattle.lm_ots.proofs.candidate.candidate.Statement.{statement}
+use Rattle.lm_ots.proofs.candidate.candidate.Tie as tie
+
+slice-aggregate-tagged-message : tie.Need-slice-aggregate-tagged-message
+slice-aggregate-tagged-message c = simp length-take (omega (arith, c .before .before .before .pre .2))
+
+tagged-message-requires : tie.Need-tagged-message-requires
+tagged-message-requires c κs =
+    (lit< tt, simp length-take (omega (arith, c .before .before .before .pre .2)), c .before .before .before .pre .1)
+
+bytes-requires : tie.Need-bytes-requires
+bytes-requires c κs = search needs
+
+with-checksum-requires : tie.Need-with-checksum-requires
+with-checksum-requires c κs =
+    let start = c .before .before .before .before .before in
+    (width (start .args .o) (start .pre .0), shift-below (start .args .o) (start .pre .0))
+
+slice-aggregate-put-ends : tie.Need-slice-aggregate-put-ends
+slice-aggregate-put-ends c = search needs
+
+sub-put-ends : tie.Need-sub-put-ends
+sub-put-ends c = search needs
+
+part-put-ends-start : tie.Need-part-put-ends-start
+part-put-ends-start c = search needs
+
+part-put-ends-end : tie.Need-part-put-ends-end
+part-put-ends-end c = search needs
+
+slice-aggregate-put-ends-2 : tie.Need-slice-aggregate-put-ends-2
+slice-aggregate-put-ends-2 c = search needs
+
+put-ends-requires : tie.Need-put-ends-requires
+put-ends-requires c κs =
+    let start = c .before .before .before .before .before .before .before .before .before in
+    let o = start .args .o in
+    let sig = start .args .signature .now in
+    let rest : length (take (length sig - 32) (drop 32 sig)) ≡ 32 * o .chains =
+    rw (part-end sig 32, length-drop) (omega (arith, start .pre .2)) in
+    (start .pre .0, search needs, rest, omega (arith, few o (start .pre .0)))
+
+mul-n : tie.Need-mul-n
+mul-n c = search needs
+
+array-share-prefix-ends : tie.Need-array-share-prefix-ends
+array-share-prefix-ends c =
+    let start = c .before .before .before .before .before .before .before .before .before .before .before .before in
+    omega (arith, few (start .args .o) (start .pre .0), c .before .before .put-ends .kept .1 .1 .1 .1 .0)
+
+slice-aggregate-tagged : tie.Need-slice-aggregate-tagged
+slice-aggregate-tagged c =
+    let start = c .before .before .before .before .before .before .before .before .before .before .before .before .before in
+    simp length-take (omega (arith, few (start .args .o) (start .pre .0), c .before .before .before .put-ends .kept .1 .1 .1 .1 .0))
+
+tagged-requires : tie.Need-tagged-requires
+tagged-requires c κs =
+    let start = c .before .before .before .before .before .before .before .before .before .before .before .before .before in
+    (lit< tt, simp length-take (omega (arith, few (start .args .o) (start .pre .0))))
+
+returns : tie.Need-returns
+unfolding candidate D-MESG D-PBLC
+returns c =
+    let start = c .before .before .before .before .before .before .before .before .before .before .before .before .before .before in
+    let o = start .args .o in
+    let leaf = start .args .leaf in
+    let sig = start .args .signature .now in
+    let message = start .args .message .now in
+    let I = identifier leaf in
+    let Q = tagged I (leaf .q) D-MESG (take 32 sig ++ message) in
+    let s : c .before .before .before .before .before .before .before .before .with-checksum .result ≡ withChecksum o Q =
+    c .before .before .before .before .before .before .before .before .with-checksum .ensures ∙ ap (withChecksum o) (c .before .before .before .before .before .before .before .before .before .bytes .ensures ∙ c .before .before .before .before .before .before .before .before .before .before .tagged-message .ensures) in
+    let all : take (32 * o .chains) (c .before .before .before .before .put-ends .last .1 .1 .1 .1 .0) ≡ ends o I (leaf .q) (withChecksum o Q) (drop 32 sig) (o .chains) =
+    c .before .before .before .before .put-ends .ensures
+    ∙ ap (λ (y : List ℕ). ends o I (leaf .q) (c .before .before .before .before .before .before .before .before .with-checksum .result) y (o .chains)) (part-end sig 32)
+    ∙ ap (λ (d : List ℕ). ends o I (leaf .q) d (drop 32 sig) (o .chains)) s in
+    c .tagged .ensures ∙ ap (tagged I (leaf .q) D-PBLC) all
+
+pub candidate-spec : {M : Type 1} → statement M
+candidate-spec =
+    tie.close
+    (tie.spec
+    slice-aggregate-tagged-message
+    tagged-message-requires
+    bytes-requires
+    with-checksum-requires
+    slice-aggregate-put-ends
+    sub-put-ends
+    part-put-ends-start
+    part-put-ends-end
+    slice-aggregate-put-ends-2
+    put-ends-requires
+    mul-n
+    array-share-prefix-ends
+    slice-aggregate-tagged
+    tagged-requires
+    returns)

@@ -1,0 +1,38 @@
+-- The public key candidate of a one-time signature (RFC 8554, 4.6, algorithm 4b), over the parameters of the type.
+use mathlib.Core.List.{List, [], _∷_, _++_}
+use Prim.Native.Nat.{ℕ, zero, suc, _+_, _-_, _*_, _^_}
+use lib.ListN.{take, drop}
+use Rattle.words.specs.BigEndian.{be}
+use Rattle.lm_hash.specs.Tagged.{tagged}
+use Rattle.lm_ots.specs.declared.Parameters.{Parameters}
+use Rattle.lm_ots.specs.Digits.{coef, withChecksum}
+
+-- 4.1, 5.1: the constants that set hashes of different uses apart
+unfoldable pub D-PBLC : ℕ
+D-PBLC = 0x8080
+
+unfoldable pub D-MESG : ℕ
+D-MESG = 0x8181
+
+-- steps j, j + 1, .. of chain i, `count` of them: the inner loop of algorithm 4b, step 3
+unfoldable pub chain : List ℕ → ℕ → ℕ → ℕ → ℕ → List ℕ → List ℕ
+chain I q i zero j tmp = tmp
+chain I q i (suc count) j tmp = chain I q i count (suc j) (tagged I q i (be 1 j ++ tmp))
+
+module _ (o : Parameters) (I : List ℕ) (q : ℕ) where
+  -- z[i] from y[i], where s is Q || Cksm(Q) and y is y[0] || .. || y[p-1]
+  unfoldable pub end : List ℕ → List ℕ → ℕ → List ℕ
+  end s y i =
+      let a = coef (o .bits) s i in
+      chain I q i (2 ^ o .bits - 1 - a) a (take 32 (drop (32 * i) y))
+
+  -- z[0] || .. || z[i-1]
+  unfoldable pub ends : List ℕ → List ℕ → ℕ → List ℕ
+  ends s y zero = []
+  ends s y (suc i) = ends s y i ++ end s y i
+
+  -- algorithm 4b, step 3: Kc
+  unfoldable pub candidate : List ℕ → List ℕ → List ℕ → List ℕ
+  candidate C y message =
+      let Q = tagged I q D-MESG (C ++ message) in
+      tagged I q D-PBLC (ends (withChecksum o Q) y (o .chains))

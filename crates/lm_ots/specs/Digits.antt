@@ -1,0 +1,24 @@
+-- Digits of a byte string and their checksum, over the digit width w (RFC 8554, 3.1.3 and 4.4).
+use mathlib.Core.List.{List, _++_}
+use Prim.Native.Nat.{ℕ, zero, suc, _+_, _-_, _*_, _/_, _%_, _^_}
+use lib.ListN.{getD}
+use Rattle.words.specs.BigEndian.{be}
+use Rattle.lm_ots.specs.declared.Parameters.{Parameters}
+use Rattle.lm_ots.specs.Parameters.{messageDigits}
+
+-- 3.1.3: coef(S, i, w); the AND with 2^w - 1 is the rest modulo 2^w
+unfoldable pub coef : ℕ → List ℕ → ℕ → ℕ
+coef w s i = getD s (i * w / 8) 0 / 2 ^ (8 - (w * (i % (8 / w)) + w)) % 2 ^ w
+
+-- 4.4, algorithm 2: the sum over the first i digits
+unfoldable pub sum : ℕ → List ℕ → ℕ → ℕ
+sum w s zero = 0
+sum w s (suc i) = sum w s i + (2 ^ w - 1 - coef w s i)
+
+-- 4.4, algorithm 2: Cksm(S)
+unfoldable pub checksum : Parameters → List ℕ → ℕ
+checksum o s = sum (o .bits) s (messageDigits (o .bits)) * 2 ^ o .shift
+
+-- 4.6, algorithm 4b, step 3: Q || Cksm(Q)
+unfoldable pub withChecksum : Parameters → List ℕ → List ℕ
+withChecksum o q = q ++ be 2 (checksum o q)

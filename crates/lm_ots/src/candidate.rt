@@ -1,0 +1,50 @@
+// The public key candidate of a one-time signature (RFC 8554, 4.6, algorithm 4b).
+ghost use mathlib.Core.Path.{_≡_};
+ghost use mathlib.Core.List.{_++_};
+ghost use Prim.Native.Nat.{_+_, _*_, _≤_, _<_};
+ghost use lib.ListN.{length, take, drop};
+ghost use Rattle.sha256.specs.Sha256.{bytesOf};
+ghost use Rattle.lm_hash.specs.Identifier.{identifier};
+ghost use Rattle.lm_ots.specs.Parameters.{Listed};
+ghost use Rattle.lm_ots.specs.Candidate as rfc;
+use super::Parameters;
+use super::chain;
+use super::digits;
+use lm_hash::Leaf;
+use sha256::State;
+
+// The end of chain i: z[i], from y[i] and the digit of the chain.
+fn end(leaf: Leaf, o: Parameters, s: &[u8], y: &[u8], i: usize) -> State
+    requires { ⌜ Listed o × (length (now s) ≡ 34) × (length (now y) ≡ 32 * o .chains) × (i < o .chains) ⌝ }
+    ensures { λ r. ⌜ bytesOf r ≡ rfc.end o (identifier leaf) (leaf .q) (now (s .entry)) (now (y .entry)) i ⌝ }
+{
+    let a = digits::digit(s, o.bits, i);
+    let last = (1 << o.bits) - 1;
+    chain::chain(leaf, i as u32, a, last, lm_hash::value_at(y, 32 * i))
+}
+
+// Writes the ends of all chains, one after the other.
+fn put_ends(leaf: Leaf, o: Parameters, s: &[u8], y: &[u8], out: &mut [u8])
+    requires { ⌜ Listed o × (length (now s) ≡ 34) × (length (now y) ≡ 32 * o .chains) × (32 * o .chains ≤ length (now out)) ⌝ }
+    ensures { λ _. ⌜ take (32 * o .chains) (now (out .exit)) ≡ rfc.ends o (identifier leaf) (leaf .q) (now (s .entry)) (now (y .entry)) (o .chains) ⌝ }
+{
+    let chains = o.chains;
+    let mut i = 0;
+    while i < chains {
+        lm_hash::put_value(out, 32 * i, end(leaf, o, s, y, i));
+        i += 1;
+    }
+}
+
+// Kc, from C and y[0] to y[p-1] one after the other.
+pub fn candidate(leaf: Leaf, o: Parameters, message: &[u8], signature: &[u8]) -> State
+    requires { ⌜ Listed o × (length (now message) ≤ 16777216) × (length (now signature) ≡ 32 * (o .chains + 1)) ⌝ }
+    ensures { λ r. ⌜ bytesOf r ≡ rfc.candidate o (identifier leaf) (leaf .q) (take 32 (now (signature .entry))) (drop 32 (now (signature .entry))) (now (message .entry)) ⌝ }
+{
+    let q = lm_hash::tagged_message(leaf, leaf.q, 0x8181, &signature[..32], message);
+    let s = digits::with_checksum(q.bytes(), o);
+    let mut ends = [0u8; 8480];
+    put_ends(leaf, o, &s, &signature[32..], &mut ends);
+    let n = 32 * o.chains;
+    lm_hash::tagged(leaf, leaf.q, 0x8080, &ends[..n])
+}

@@ -1,0 +1,53 @@
+// Digits of a hash value and their checksum (RFC 8554, 3.1.3 and 4.4).
+ghost use mathlib.Core.Path.{_≡_};
+ghost use Prim.Native.Nat.{_*_, _/_, _^_, _≤_, _<_};
+ghost use lib.ListN.{length};
+ghost use Rattle.lm_ots.specs.Parameters.{messageDigits};
+ghost use Rattle.lm_ots.specs.Digits.{coef, sum, withChecksum};
+use super::Parameters;
+
+// Digit i of a byte string (RFC 8554, 3.1.3): 8 / bits digits stand in a byte, the first in its
+// highest bits.
+pub fn digit(s: &[u8], bits: u32, i: usize) -> u32
+    requires { ⌜ (bits * (8 / bits) ≡ 8) × (i * bits / 8 < length (now s)) ⌝ }
+    ensures { λ r. ⌜ (r ≡ coef bits (now (s .entry)) i) × (r < 2 ^ bits) ⌝ }
+{
+    let each = 8 / (bits as usize);
+    let at = i / each;
+    let before = bits * ((i % each) as u32);
+    let after = 8 - (before + bits);
+    (words::wide(s[at]) >> after) % (1 << bits)
+}
+
+// What each digit of the first 32 bytes is short of the largest, added up (RFC 8554, 4.4,
+// algorithm 2).
+pub fn digit_sum(s: &[u8], bits: u32) -> u32
+    requires { ⌜ (bits * (8 / bits) ≡ 8) × (32 ≤ length (now s)) ⌝ }
+    ensures { λ r. ⌜ r ≡ sum bits (now (s .entry)) (messageDigits bits) ⌝ }
+{
+    let largest = (1 << bits) - 1;
+    let count = (256 / bits) as usize;
+    let mut total: u32 = 0;
+    let mut i = 0;
+    while i < count {
+        total += largest - digit(s, bits, i);
+        i += 1;
+    }
+    total
+}
+
+// Q || Cksm(Q) (RFC 8554, 4.6, algorithm 4b, step 3).
+pub fn with_checksum(q: [u8; 32], o: Parameters) -> [u8; 34]
+    requires { ⌜ (o .bits * (8 / o .bits) ≡ 8) × (o .shift < 32) ⌝ }
+    ensures { λ r. ⌜ r ≡ withChecksum o q ⌝ }
+{
+    let checksum = digit_sum(&q, o.bits) << o.shift;
+    let mut s = [0u8; 34];
+    let mut i = 0;
+    while i < 32 {
+        s[i] = q[i];
+        i += 1;
+    }
+    words::put_u16(&mut s, 32, (checksum % 65536) as u16);
+    s
+}

@@ -1,0 +1,47 @@
+-- Two values fill a block, so that no zeros follow.
+-- Assumes nothing.
+use mathlib.Core.Path.{_≡_, _∙_}
+use mathlib.Core.List.{_++_}
+use native.Mathlib.Omega.{arith}
+use borrow.Author.Needs.{needs}
+use lib.ListN.{length, replicate, length-append}
+use lib.Seq.{take-at}
+use Rattle.lms.proofs.tree.pair.Statement.{statement}
+use Rattle.lms.proofs.tree.pair.Tie as tie
+
+bytes-requires : tie.Need-bytes-requires
+bytes-requires c κs = search needs
+
+bytes-requires-2 : tie.Need-bytes-requires-2
+bytes-requires-2 c κs = search needs
+
+slice-aggregate-first-block : tie.Need-slice-aggregate-first-block
+slice-aggregate-first-block c = search needs
+
+slice-aggregate-first-block-2 : tie.Need-slice-aggregate-first-block-2
+slice-aggregate-first-block-2 c = search needs
+
+first-block-requires : tie.Need-first-block-requires
+first-block-requires c κs = search needs
+
+returns : tie.Need-returns
+returns c =
+    let left = c .before .before .before .before .bytes in
+    let right = c .before .before .before .bytes2 in
+    let first : length (left .result) ≡ 32 = search needs in
+    let second : length (right .result) ≡ 32 = search needs in
+    let both : length (left .result ++ right .result) ≡ 64 = rw length-append (omega arith) in
+    c .first-block .ensures
+    ∙ take-at (left .result ++ right .result) (replicate 64 0) 64 both
+    ∙ rw (left .ensures, right .ensures)
+
+pub pair-spec : {M : Type 1} → statement M
+pair-spec =
+    tie.close
+    (tie.spec
+    bytes-requires
+    bytes-requires-2
+    slice-aggregate-first-block
+    slice-aggregate-first-block-2
+    first-block-requires
+    returns)

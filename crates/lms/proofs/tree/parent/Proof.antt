@@ -1,0 +1,28 @@
+-- The children's bytes are hashed under the parent's number.
+-- Assumes nothing.
+use mathlib.Core.Path.{ap, _∙_}
+use Prim.Native.Nat.{_/_}
+use borrow.Author.Needs.{needs}
+use Rattle.lm_hash.specs.Identifier.{identifier}
+use Rattle.lm_hash.specs.Tagged.{tagged}
+use Rattle.lms.specs.Tree.{parent, D-INTR}
+use Rattle.lms.proofs.tree.parent.Statement.{statement}
+use Rattle.lms.proofs.tree.parent.Tie as tie
+
+children-requires : tie.Need-children-requires
+children-requires c κs = search needs
+
+slice-aggregate-tagged : tie.Need-slice-aggregate-tagged
+slice-aggregate-tagged c = search needs
+
+tagged-requires : tie.Need-tagged-requires
+tagged-requires c κs = search needs
+
+returns : tie.Need-returns
+unfolding parent D-INTR
+returns c =
+    let a = c .before .before .before .args in
+    c .tagged .ensures ∙ ap (tagged (identifier (a .leaf)) (a .node / 2) D-INTR) (c .before .before .children .ensures)
+
+pub parent-spec : {M : Type 1} → statement M
+parent-spec = tie.close (tie.spec children-requires slice-aggregate-tagged tagged-requires returns)

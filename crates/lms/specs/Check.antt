@@ -1,0 +1,69 @@
+-- The signature check (RFC 8554, 5.4.2, algorithms 6 and 6a), and the answer of the service for every input (document 01,
+-- "Digest and signature").
+use mathlib.Core.Bool.{Bool, true, false, cond}
+use mathlib.Core.List.{List}
+use Prim.Native.Nat.{ℕ, _+_, _*_, _^_}
+use lib.Dec.{eqb, ltb}
+use lib.ListN.{length, take, drop}
+use Rattle.words.specs.BigEndian.{numberAt, same}
+use Rattle.sha256.specs.Service.{tooLong}
+use Rattle.lm_ots.specs.declared.Parameters.{Parameters}
+use Rattle.lm_ots.specs.declared.OneTime.{OneTime}
+use Rattle.lm_ots.specs.declared.OneTime.the-variants.{Known, Unknown as NoType}
+use Rattle.lm_ots.specs.Parameters.{oneTime}
+use Rattle.lm_ots.specs.Candidate.{candidate}
+use Rattle.lms.specs.declared.Height.{Height}
+use Rattle.lms.specs.declared.Height.the-variants.{Levels, Unknown}
+use Rattle.lms.specs.declared.Answer.{Answer}
+use Rattle.lms.specs.declared.Answer.the-variants.{Good, Bad, Long}
+use Rattle.lms.specs.Tree.{height, root}
+
+-- bytes of a one-time signature after its type: C and y[0] to y[p-1]
+unfoldable pub oneTimeBytes : Parameters → ℕ
+oneTimeBytes o = 32 * (o .chains + 1)
+
+-- where the path begins in a signature: after q and the one-time type, C and y, and the tree type
+unfoldable pub pathAt : Parameters → ℕ
+pathAt o = 8 + oneTimeBytes o + 4
+
+module _ (o : Parameters) (h : ℕ) (key message signature : List ℕ) where
+  -- algorithm 6a, steps 2 to 5: Tc
+  unfoldable pub rootOf : List ℕ
+  rootOf =
+      let I = take 16 (drop 8 key) in
+      let q = numberAt 4 signature 0 in
+      let ots = take (oneTimeBytes o) (drop 8 signature) in
+      root I h q (candidate o I q (take 32 ots) (drop 32 ots) message) (drop (pathAt o) signature)
+
+  -- algorithm 6a, step 2, and algorithm 6, step 4, for known types
+  unfoldable pub verifies : Bool
+  verifies =
+      cond (eqb (length signature) (pathAt o + 32 * h))  -- 2.d, 2.i
+      (cond (eqb (numberAt 4 signature 4) (numberAt 4 key 4))  -- 2.c
+      (cond (eqb (numberAt 4 signature (8 + oneTimeBytes o)) (numberAt 4 key 0))  -- 2.g
+      (cond (ltb (numberAt 4 signature 0) (2 ^ h))  -- 2.i
+      (same rootOf (drop 24 key))  -- algorithm 6, step 4
+      false)
+      false)
+      false)
+      false
+
+-- algorithm 6, steps 1 and 2: a type that is not listed is bad
+unfoldable pub typed : OneTime → Height → List ℕ → List ℕ → List ℕ → Bool
+typed NoType t key message signature = false
+typed (Known o) Unknown key message signature = false
+typed (Known o) (Levels h) key message signature = verifies o h key message signature
+
+unfoldable pub good : List ℕ → List ℕ → List ℕ → Bool
+good key message signature =
+    cond (eqb (length key) 56) (typed (oneTime (numberAt 4 key 4)) (height (numberAt 4 key 0)) key message signature) false
+
+-- the service's answer: a long message comes before everything
+unfoldable pub answer : List ℕ → List ℕ → List ℕ → Answer
+answer key message signature = cond (tooLong message) Long (cond (good key message signature) Good Bad)
+
+-- document 01's number of each answer
+abbrev pub answerNumber : Answer → ℕ
+answerNumber Good = 0
+answerNumber Bad = 15
+answerNumber Long = 16

@@ -1,0 +1,119 @@
+// The LMS signature check (RFC 8554, section 5; document 01, "Digest and signature").
+ghost use mathlib.Core.Path.{_≡_};
+ghost use Prim.Native.Nat.{_+_, _*_, _^_, _≤_, _<_};
+ghost use lib.ListN.{length, drop};
+ghost use Rattle.words.specs.BigEndian.{numberAt, same};
+ghost use Rattle.sha256.specs.Sha256.{bytesOf};
+ghost use Rattle.lm_ots.specs.Parameters.{Listed};
+ghost use Rattle.lms.specs.Tree.{height};
+ghost use Rattle.lms.specs.Check as rfc;
+
+mod tree;
+
+use lm_ots::OneTime;
+use lm_ots::Parameters;
+use sha256::State;
+
+// The height of a tree type.
+pub enum Height {
+    Levels(u32),
+    Unknown,
+}
+
+// What the check says of a signature.
+pub enum Answer {
+    Good,
+    Bad,
+    Long,
+}
+
+// The height of a type number.
+pub fn height_of(number: u32) -> Height
+    ensures { λ r. ⌜ r ≡ height number ⌝ }
+{
+    match number {
+        5 => Height::Levels(5),
+        6 => Height::Levels(10),
+        7 => Height::Levels(15),
+        8 => Height::Levels(20),
+        9 => Height::Levels(25),
+        _ => Height::Unknown,
+    }
+}
+
+// The root that a signature of the right length and leaf number leads to (RFC 8554, 5.4.2, algorithm 6a).
+fn root_of(o: Parameters, h: u32, key: &[u8], message: &[u8], signature: &[u8]) -> State
+    requires { ⌜ Listed o × (h ≤ 25) × (length (now key) ≡ 56) × (length (now message) ≤ 16777216)
+        × (length (now signature) ≡ rfc.pathAt o + 32 * h) × (numberAt 4 (now signature) 0 < 2 ^ h) ⌝ }
+    ensures { λ r. ⌜ bytesOf r ≡ rfc.rootOf o h (now (key .entry)) (now (message .entry)) (now (signature .entry)) ⌝ }
+{
+    let leaf = lm_hash::leaf_at(key, 8, words::u32_at(signature, 0));
+    let end = 8 + 32 * (o.chains + 1);
+    let path = end + 4;
+    let candidate = lm_ots::candidate::candidate(leaf, o, message, &signature[8..end]);
+    tree::root(leaf, h, candidate, &signature[path..])
+}
+
+// Whether the root's bytes are the key's.
+fn matches(root: State, key: &[u8]) -> bool
+    requires { ⌜ length (now key) ≡ 56 ⌝ }
+    ensures { λ r. ⌜ r ≡ same (bytesOf root) (drop 24 (now (key .entry))) ⌝ }
+{
+    let bytes = root.bytes();
+    check::same(&bytes, &key[24..])
+}
+
+// Whether a signature verifies under a key of known types (RFC 8554, 5.4.2, algorithms 6 and 6a).
+fn verify(o: Parameters, h: u32, key: &[u8], message: &[u8], signature: &[u8]) -> bool
+    requires { ⌜ Listed o × (h ≤ 25) × (length (now key) ≡ 56) × (length (now message) ≤ 16777216) ⌝ }
+    ensures { λ r. ⌜ r ≡ rfc.verifies o h (now (key .entry)) (now (message .entry)) (now (signature .entry)) ⌝ }
+{
+    let end = 8 + 32 * (o.chains + 1);
+    if signature.len() != end + 4 + 32 * (h as usize) {
+        return false;
+    }
+    if words::u32_at(signature, 4) != words::u32_at(key, 4) {
+        return false;
+    }
+    if words::u32_at(signature, end) != words::u32_at(key, 0) {
+        return false;
+    }
+    if 1 << h <= words::u32_at(signature, 0) {
+        return false;
+    }
+    matches(root_of(o, h, key, message, signature), key)
+}
+
+// The check: a long message first, then good or bad as RFC 8554 says.
+pub fn check(key: &[u8], message: &[u8], signature: &[u8]) -> Answer
+    ensures { λ r. ⌜ r ≡ rfc.answer (now (key .entry)) (now (message .entry)) (now (signature .entry)) ⌝ }
+{
+    if 16777216 < message.len() {
+        return Answer::Long;
+    }
+    if key.len() != 56 {
+        return Answer::Bad;
+    }
+    let OneTime::Known(o) = lm_ots::one_time(words::u32_at(key, 4)) else {
+        return Answer::Bad;
+    };
+    let Height::Levels(h) = height_of(words::u32_at(key, 0)) else {
+        return Answer::Bad;
+    };
+    if verify(o, h, key, message, signature) {
+        Answer::Good
+    } else {
+        Answer::Bad
+    }
+}
+
+// Document 01's number of an answer: 0 good, 15 bad, 16 long message.
+pub fn number_of(answer: Answer) -> u32
+    ensures { λ r. ⌜ r ≡ rfc.answerNumber answer ⌝ }
+{
+    match answer {
+        Answer::Good => 0,
+        Answer::Bad => 15,
+        Answer::Long => 16,
+    }
+}
