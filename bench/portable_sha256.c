@@ -22,6 +22,9 @@ static const uint32_t K[64] = {
     0x748f82ee, 0x78a5636f, 0x84c87814, 0x8cc70208, 0x90befffa, 0xa4506ceb, 0xbef9a3f7, 0xc67178f2,
 };
 
+const uint32_t portable_sha256_initial[8] = {0x6a09e667, 0xbb67ae85, 0x3c6ef372, 0xa54ff53a,
+                                             0x510e527f, 0x9b05688c, 0x1f83d9ab, 0x5be0cd19};
+
 /* FIPS 180-4, 4.1.2 */
 #define ROTR(x, n) ((x) >> (n) | (x) << (32 - (n)))
 #define BIG_SIGMA0(x) (ROTR(x, 2) ^ ROTR(x, 13) ^ ROTR(x, 22))
@@ -66,16 +69,7 @@ static inline uint32_t load_word(const uint8_t *p)
     return (uint32_t)p[0] << 24 | (uint32_t)p[1] << 16 | (uint32_t)p[2] << 8 | p[3];
 }
 
-static inline void store_word(uint8_t *p, uint32_t x)
-{
-    p[0] = (uint8_t)(x >> 24);
-    p[1] = (uint8_t)(x >> 16);
-    p[2] = (uint8_t)(x >> 8);
-    p[3] = (uint8_t)x;
-}
-
-/* FIPS 180-4, 6.2.2: takes count blocks into the state. */
-static void compress(uint32_t state[8], const uint8_t *block, size_t count)
+void portable_sha256_blocks(uint32_t state[8], const uint8_t *block, size_t count)
 {
     for (; count > 0; count--, block += 64) {
         uint32_t w[16];
@@ -103,11 +97,10 @@ static void compress(uint32_t state[8], const uint8_t *block, size_t count)
 
 void portable_sha256(const uint8_t *message, size_t message_len, uint8_t digest[32])
 {
-    /* FIPS 180-4, 5.3.3 */
-    uint32_t state[8] = {0x6a09e667, 0xbb67ae85, 0x3c6ef372, 0xa54ff53a,
-                         0x510e527f, 0x9b05688c, 0x1f83d9ab, 0x5be0cd19};
+    uint32_t state[8];
     size_t rest = message_len % 64;
-    compress(state, message, message_len / 64);
+    memcpy(state, portable_sha256_initial, sizeof state);
+    portable_sha256_blocks(state, message, message_len / 64);
 
     /* FIPS 180-4, 5.1.1: the rest, a one bit, zeros, and the length in bits. */
     uint8_t last[128] = {0};
@@ -115,10 +108,10 @@ void portable_sha256(const uint8_t *message, size_t message_len, uint8_t digest[
     if (rest > 0)
         memcpy(last, message + (message_len - rest), rest);
     last[rest] = 0x80;
-    store_word(last + last_len - 8, (uint32_t)((uint64_t)message_len >> 29));
-    store_word(last + last_len - 4, (uint32_t)((uint64_t)message_len << 3));
-    compress(state, last, last_len / 64);
+    portable_sha256_store(last + last_len - 8, (uint32_t)((uint64_t)message_len >> 29));
+    portable_sha256_store(last + last_len - 4, (uint32_t)((uint64_t)message_len << 3));
+    portable_sha256_blocks(state, last, last_len / 64);
 
     for (int i = 0; i < 8; i++)
-        store_word(digest + 4 * i, state[i]);
+        portable_sha256_store(digest + 4 * i, state[i]);
 }

@@ -8,4 +8,21 @@
 /* Writes the SHA-256 digest of the first message_len bytes at message. */
 void portable_sha256(const uint8_t *message, size_t message_len, uint8_t digest[32]);
 
+/* ---- the parts of it */
+
+/* The state before the first block (FIPS 180-4, 5.3.3). */
+extern const uint32_t portable_sha256_initial[8];
+
+/* Takes count blocks of 64 bytes into the state (FIPS 180-4, 6.2.2). */
+void portable_sha256_blocks(uint32_t state[8], const uint8_t *block, size_t count);
+
+/* Writes a word, its highest byte first. */
+static inline void portable_sha256_store(uint8_t *p, uint32_t x)
+{
+    p[0] = (uint8_t)(x >> 24);
+    p[1] = (uint8_t)(x >> 16);
+    p[2] = (uint8_t)(x >> 8);
+    p[3] = (uint8_t)x;
+}
+
 #endif

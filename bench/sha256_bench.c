@@ -12,16 +12,15 @@
 #define OPENSSL_SUPPRESS_DEPRECATED /* SHA256_Init and so on: no search for an algorithm per call */
 #include "hirelog.h"
 #include "portable_sha256.h"
+#include "timing.h"
 
 #include <openssl/sha.h>
 
 #include <fcntl.h>
-#include <sched.h>
 #include <stdio.h>
 #include <stdlib.h>
 #include <string.h>
 #include <sys/wait.h>
-#include <time.h>
 #include <unistd.h>
 
 /*
@@ -72,13 +71,6 @@ static void openssl(const uint8_t *message, size_t len, uint8_t digest[32])
 }
 
 /* ---- rounds */
-
-static double now_ns(void)
-{
-    struct timespec t;
-    clock_gettime(CLOCK_MONOTONIC, &t);
-    return (double)t.tv_sec * 1e9 + (double)t.tv_nsec;
-}
 
 /* One round. The short messages stand side by side in the first 28 KiB and come round again. */
 static struct result run_round(hash_function *hash, const struct kind *kind)
@@ -150,18 +142,6 @@ static int cpu_has_sha(void)
     if (file)
         fclose(file);
     return found;
-}
-
-/* Stays on the processor it is on, and the child with it. */
-static void stay(void)
-{
-    cpu_set_t set;
-    int cpu = sched_getcpu();
-    CPU_ZERO(&set);
-    if (cpu < 0)
-        return;
-    CPU_SET((size_t)cpu, &set);
-    sched_setaffinity(0, sizeof set, &set);
 }
 
 int main(int argc, char **argv)

@@ -9,14 +9,18 @@
 extern "C" {
 #endif
 
-/* The longest message, in bytes, that is given a digest. */
+/* The longest message, in bytes, that is given a digest or has its signature checked. */
 #define HIRELOG_MESSAGE_MAX 16777216
 
 /* The bytes of a digest. */
 #define HIRELOG_DIGEST_SIZE 32
 
+/* The bytes of an LMS public key. */
+#define HIRELOG_LMS_KEY_SIZE 56
+
 /* The numbers that a function returns. */
 #define HIRELOG_OK 0
+#define HIRELOG_BAD_SIGNATURE 15
 #define HIRELOG_LONG_MESSAGE 16
 
 /*
@@ -41,6 +45,40 @@ extern "C" {
  */
 uint32_t hirelog_sha256(const uint8_t *message, size_t message_len,
                         uint8_t digest[HIRELOG_DIGEST_SIZE]);
+
+/*
+ * Whether an LMS signature (RFC 8554, algorithm 6) of the first message_len bytes at message is
+ * good for a public key. Key and signature are those of LMS itself, not of HSS.
+ *
+ * Returns
+ *   HIRELOG_LONG_MESSAGE   if message_len is above HIRELOG_MESSAGE_MAX, whatever the key and the
+ *                          signature are;
+ *   HIRELOG_OK             else, if the signature is good: algorithm 6 accepts it;
+ *   HIRELOG_BAD_SIGNATURE  else.
+ * No other number is returned.
+ *
+ * The types known are those of SHA-256 with 32 bytes: one-time types 1 to 4 (digit widths 1, 2, 4
+ * and 8) and tree types 5 to 9 (heights 5, 10, 15, 20 and 25). A signature is bad if
+ *   - key_len is not HIRELOG_LMS_KEY_SIZE;
+ *   - the key's tree type or one-time type is not a known one;
+ *   - the signature's tree type or one-time type is not the key's;
+ *   - signature_len is not the length that these types give, to the byte;
+ *   - its leaf number is not one of the tree's, below 2 to the power of the height;
+ *   - or what is computed from the message and the signature is not the key's root.
+ * Which of these it was is not told apart.
+ *
+ * The caller sees to it that
+ *   - key points to key_len readable bytes, message to message_len and signature to signature_len;
+ *     each of the three may be NULL where its length is 0;
+ *   - no other thread writes any of them during the call.
+ * No pointer has to be aligned, and the three may overlap.
+ *
+ * No byte outside the three is read, and nothing is written: the answer is the number alone. No
+ * state is kept from one call to the next, so several threads may call this at the same time, and
+ * may share a key, a message and a signature. That a leaf number was used twice is not noticed.
+ */
+uint32_t hirelog_lms_check(const uint8_t *key, size_t key_len, const uint8_t *message,
+                           size_t message_len, const uint8_t *signature, size_t signature_len);
 
 #ifdef __cplusplus
 }

@@ -11,6 +11,7 @@
  * digest stands between guard bytes.
  */
 #define _GNU_SOURCE
+#include "hex.h"
 #include "hirelog.h"
 
 #include <openssl/sha.h>
@@ -158,24 +159,6 @@ static void check_with_openssl(const uint8_t *message, size_t len)
 }
 
 /* ---- the parts */
-
-/* Decodes hex (- for no bytes) to at most room_len bytes; their count, or -1 if it is not that. */
-static long decode_hex(const char *hex, uint8_t *bytes, size_t room_len)
-{
-    static const char digits[] = "0123456789abcdef";
-    if (strcmp(hex, "-") == 0)
-        return 0;
-    size_t len = strlen(hex);
-    if (len == 0 || len % 2 != 0 || len / 2 > room_len)
-        return -1;
-    for (size_t i = 0; i < len; i += 2) {
-        const char *high = strchr(digits, hex[i]), *low = strchr(digits, hex[i + 1]);
-        if (!high || !low)
-            return -1;
-        bytes[i / 2] = (uint8_t)((high - digits) * 16 + (low - digits));
-    }
-    return (long)(len / 2);
-}
 
 static void check_vectors(const char *path)
 {

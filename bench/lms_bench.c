@@ -1,0 +1,105 @@
+/*
+ * Measures hirelog_lms_check beside portable C:  lms_bench ROUNDS VECTORS...
+ *
+ * lms_vectors.h has the form of a vector file. First both implementations check every signature of
+ * the files; an answer other than the file's is an error, and nothing is measured.
+ *
+ * Measured is the check of the files' first good signature of height 5 and digit width 8. In each
+ * round every implementation checks it once, one after the other, on one processor; the least time
+ * over all rounds counts. The portable one counts the blocks of SHA-256 that the check takes.
+ */
+#define _GNU_SOURCE
+#include "hirelog.h"
+#include "lms_vectors.h"
+#include "portable_lms.h"
+#include "timing.h"
+
+#include <inttypes.h>
+
+typedef int check_function(const struct lms_vector *vector);
+
+static struct portable_lms_blocks blocks; /* of the last check by the portable implementation */
+
+static struct lms_vector measured;
+
+static _Noreturn void stop(const char *why, const char *where)
+{
+    fprintf(stderr, "lms_bench: %s%s\n", why, where);
+    exit(1);
+}
+
+/* ---- the implementations */
+
+static int ours(const struct lms_vector *v)
+{
+    return hirelog_lms_check(v->key, v->key_len, v->message, v->message_len, v->signature,
+                             v->signature_len) == HIRELOG_OK;
+}
+
+static int portable(const struct lms_vector *v)
+{
+    return portable_lms_good(v->key, v->key_len, v->message, v->message_len, v->signature,
+                             v->signature_len, &blocks);
+}
+
+enum { OURS, PORTABLE, ALL };
+static const char *const names[ALL] = {"ours (hirelog_lms_check)", "portable C"};
+static check_function *const checks[ALL] = {ours, portable};
+
+/* ---- the signatures */
+
+/* Holds the answers to the vector's, and keeps the first vector that is to be measured. */
+static void try_vector(const struct lms_vector *vector)
+{
+    static const uint8_t types[8] = {0, 0, 0, 5, 0, 0, 0, 4}; /* height 5, digit width 8 */
+    if (ours(vector) != vector->good)
+        stop("a wrong answer of hirelog_lms_check to ", vector->name);
+    if (portable(vector) != vector->good)
+        stop("a wrong answer of portable C to ", vector->name);
+    if (vector->good && measured.name[0] == '\0' && memcmp(vector->key, types, 8) == 0)
+        measured = *vector;
+}
+
+/* ---- the table */
+
+int main(int argc, char **argv)
+{
+    int rounds = argc > 2 ? atoi(argv[1]) : 0;
+    if (rounds < 1) {
+        fprintf(stderr, "usage: lms_bench ROUNDS VECTORS...\n");
+        return 1;
+    }
+    for (int i = 2; i < argc; i++) {
+        const char *problem = for_each_lms_vector(argv[i], try_vector);
+        if (problem)
+            stop(problem, "");
+    }
+    if (measured.name[0] == '\0')
+        stop("no good signature of height 5 and digit width 8", "");
+
+    double best[ALL]; /* nanoseconds */
+    stay();
+    for (int round = 0; round < rounds; round++) {
+        for (int i = 0; i < ALL; i++) {
+            double start = now_ns();
+            int good = checks[i](&measured);
+            double ns = now_ns() - start;
+            if (!good)
+                stop("another answer than before to ", measured.name);
+            if (round == 0 || ns < best[i])
+                best[i] = ns;
+        }
+    }
+
+    uint64_t count = blocks.message + blocks.chains + blocks.public_key + blocks.tree;
+    printf("Check of %s: height 5, digit width 8. Best of %d rounds.\n", measured.name, rounds);
+    printf("Blocks of SHA-256: %" PRIu64 " (message %" PRIu64 ", chains %" PRIu64
+           ", public key %" PRIu64 ", tree %" PRIu64 ").\n\n",
+           count, blocks.message, blocks.chains, blocks.public_key, blocks.tree);
+    printf("%-30s %10s %10s %10s\n", "", "us/check", "ns/block", "ours/this");
+    for (int i = 0; i < ALL; i++)
+        printf("%-30s %10.1f %10.1f %10.2f\n", names[i], best[i] / 1e3, best[i] / (double)count,
+               best[OURS] / best[i]);
+    printf("\nratio to portable C: signature check %.2f\n", best[OURS] / best[PORTABLE]);
+    return 0;
+}

@@ -1,0 +1,173 @@
+//! The inputs: good signatures of every width and height, and each way to spoil one.
+
+mod leaves;
+mod messages;
+mod shapes;
+mod spoiled;
+
+use crate::Comparison;
+use auditor::lms::sign::OneTime;
+use auditor::lms::Verdict::{Bad, Good, Long};
+use auditor::lms::{OneTimeType, TreeType, KEY_LENGTH, N, ONE_TIME_TYPES, TREE_TYPES};
+use auditor::random::Random;
+use auditor::sha256::Digest;
+use std::ops::Range;
+
+/// The full set has the fixed seed, the small one the fresh.
+#[derive(Clone, Copy, PartialEq)]
+pub enum Size {
+    Full,
+    Small,
+}
+
+/// Every kind of input, from this seed.
+pub fn run(comparison: &mut Comparison, seed: u64, size: Size) {
+    let mut inputs = Inputs { comparison, random: Random::new(seed), size };
+    for one_time in &ONE_TIME_TYPES {
+        for tree in &TREE_TYPES {
+            inputs.signatures(one_time, tree);
+            inputs.field_edges(one_time, tree);
+            inputs.lengths(one_time, tree);
+            inputs.types(one_time, tree);
+            inputs.leaf_numbers(one_time, tree);
+        }
+        inputs.unknown_heights(one_time);
+        inputs.checksums(one_time);
+        inputs.every_leaf(one_time);
+        inputs.every_byte(one_time);
+        inputs.message_lengths(one_time);
+        inputs.no_bytes(one_time);
+        inputs.long_messages(one_time);
+    }
+    inputs.every_length();
+    inputs.past_32_bits();
+}
+
+/// The first bytes of one fixed sequence, for messages too long to print.
+pub fn pattern(length: usize) -> Vec<u8> {
+    (0..length as u32).map(|i| (i.wrapping_mul(0x9e37_79b1) >> 24) as u8).collect()
+}
+
+/// A key, a message and a signature.
+#[derive(Clone)]
+struct Made {
+    one_time: &'static OneTimeType,
+    tree: &'static TreeType,
+    q: u32,
+    key: Vec<u8>,
+    message: Vec<u8>,
+    signature: Vec<u8>,
+}
+
+impl Made {
+    /// What it is, for a difference.
+    fn name(&self, what: &str) -> String {
+        format!("{what} (w {}, h {}, leaf {})", self.one_time.w, self.tree.h, self.q)
+    }
+
+    /// Where the signature has its tree type.
+    fn tree_type_at(&self) -> usize {
+        8 + N * (self.one_time.p + 1)
+    }
+
+    /// RFC 8554, 5.4 and 4.5: fields of the signature; the first and the last chain and node.
+    fn signature_fields(&self) -> [(&'static str, Range<usize>); 8] {
+        let (type_at, end) = (self.tree_type_at(), self.signature.len());
+        [
+            ("leaf number", 0..4),
+            ("one-time type", 4..8),
+            ("C", 8..8 + N),
+            ("first chain", 8 + N..8 + 2 * N),
+            ("last chain", type_at - N..type_at),
+            ("tree type", type_at..type_at + 4),
+            ("first node", type_at + 4..type_at + 4 + N),
+            ("last node", end - N..end),
+        ]
+    }
+
+    /// RFC 8554, 5.3: fields of the key.
+    fn key_fields(&self) -> [(&'static str, Range<usize>); 4] {
+        [("tree type", 0..4), ("one-time type", 4..8), ("I", 8..24), ("T[1]", 24..KEY_LENGTH)]
+    }
+}
+
+/// Where inputs come from and where they go.
+struct Inputs<'a> {
+    comparison: &'a mut Comparison,
+    random: Random,
+    size: Size,
+}
+
+impl Inputs<'_> {
+    /// As many in the full set; a few of them in the small one.
+    fn count(&self, full: usize) -> usize {
+        match self.size {
+            Size::Full => full,
+            Size::Small => full.div_ceil(10),
+        }
+    }
+
+    /// A leaf number of the tree.
+    fn leaf(&mut self, tree: &TreeType) -> u32 {
+        self.random.below(1 << tree.h) as u32
+    }
+
+    /// A message of at most 300 bytes.
+    fn message(&mut self) -> Vec<u8> {
+        let length = self.random.below(301);
+        self.random.bytes(length)
+    }
+
+    /// A signature of the leaf, good if the leaf is in the tree.
+    fn make(
+        &mut self,
+        one_time: &'static OneTimeType,
+        tree: &'static TreeType,
+        q: u32,
+        message: Vec<u8>,
+    ) -> Made {
+        self.make_at(one_time, tree, q, (1 << tree.h) + q as u64, message)
+    }
+
+    /// The same with the leaf's number in the tree given.
+    fn make_at(
+        &mut self,
+        one_time: &'static OneTimeType,
+        tree: &'static TreeType,
+        q: u32,
+        node: u64,
+        message: Vec<u8>,
+    ) -> Made {
+        let private = OneTime::new(one_time, self.random.array(), q, self.random.array());
+        let path: Vec<Digest> = (0..tree.h).map(|_| self.random.array()).collect();
+        let c = self.random.array();
+        let (key, signature) = private.sign_on_path(tree, node, &path, &c, &message);
+        Made { one_time, tree, q, key, message, signature }
+    }
+
+    /// A signature of any leaf for any short message.
+    fn make_any(&mut self, one_time: &'static OneTimeType, tree: &'static TreeType) -> Made {
+        let (q, message) = (self.leaf(tree), self.message());
+        self.make(one_time, tree, q, message)
+    }
+
+    fn good(&mut self, what: &str, made: &Made) {
+        let Made { key, message, signature, .. } = made;
+        self.comparison.expect(Good, &made.name(what), key, message, signature);
+    }
+
+    fn bad(&mut self, what: &str, made: &Made) {
+        let Made { key, message, signature, .. } = made;
+        self.comparison.expect(Bad, &made.name(what), key, message, signature);
+    }
+
+    fn long(&mut self, what: &str, made: &Made) {
+        let Made { key, message, signature, .. } = made;
+        self.comparison.expect(Long, &made.name(what), key, message, signature);
+    }
+}
+
+/// Flips one bit, counted from the first byte's highest.
+fn flip(bytes: &mut [u8], bit: usize) {
+    bytes[bit / 8] ^= 0x80 >> (bit % 8);
+}
