@@ -1,5 +1,5 @@
 -- Figures of the digits: a digit is below 2^w, the checksum fits two bytes and all digits stand in 34 bytes, the table follows
--- appendix B of RFC 8554, and the papers' examples are computed.
+-- appendix B of RFC 8554, and RFC 8554's example of digits is computed.
 -- Assumes nothing.
 use mathlib.Core.Path.{_≡_, refl, ap}
 use mathlib.Core.Bool.{Bool, true, false, cond}
@@ -8,7 +8,6 @@ use Prim.Native.Nat.{ℕ, zero, suc, _+_, _-_, _*_, _/_, _^_, _≤_, _<_}
 use native.Mathlib.Nat.{le-trans, lt-of-lt-of-le, le-of-suc-le-suc, lt-of-not-le, suc-mul, mul-comm, mul-assoc, add-mul, mul-le-mul, mul-le-mul-left, mul-le-mul-right, mod-lt, div-le-self, div-add-mod', div-lt-iff-lt-mul}
 use native.Mathlib.Omega.{arith}
 use lib.Dec.{eqb, lit≤}
-use lib.ListN.{replicate}
 use lib.Pow.{pow-pos, pow-mono, shl-lt}
 use Rattle.lm_ots.specs.declared.Parameters.{Parameters}
 use Rattle.lm_ots.specs.declared.OneTime.{OneTime}
@@ -145,17 +144,3 @@ digit-1 = refl
 pub digit-4 : coef 4 (0x12 ∷ 0x34 ∷ []) 0 ≡ 1
 unfolding coef
 digit-4 = refl
-
--- ---- document 01, worked examples: the checksum of 32 bytes 0 and of 32 bytes FF
-
-pub zeros-8 : checksum (row 8 34 0) (replicate 32 0) ≡ 0x1FE0
-unfolding row checksum sum coef messageDigits
-zeros-8 = refl
-
-pub zeros-4 : checksum (row 4 67 4) (replicate 32 0) ≡ 0x3C00
-unfolding row checksum sum coef messageDigits
-zeros-4 = refl
-
-pub ones-8 : checksum (row 8 34 0) (replicate 32 255) ≡ 0
-unfolding row checksum sum coef messageDigits
-ones-8 = refl

@@ -3,7 +3,7 @@
 use mathlib.Core.Path.{_≡_, refl, sym, _∙_}
 use mathlib.Core.Bool.{Bool, true, false, cond}
 use mathlib.Core.List.{List}
-use Prim.Native.Nat.{ℕ, _+_, _*_, _^_, _≤_, _<_}
+use Prim.Native.Nat.{ℕ, _+_, _^_, _≤_, _<_}
 use borrow.Author.Tests.{lt-ltb, le-ltb, eq-eqb, ne-eqb}
 use native.Mathlib.Omega.{arith}
 use lib.Dec.{eqb, lit≤}
@@ -17,16 +17,16 @@ use Rattle.lms.specs.declared.Height.{Height}
 use Rattle.lms.specs.declared.Height.the-variants.{Levels, Unknown}
 use Rattle.lms.specs.declared.Answer.the-variants.{Good, Bad, Long}
 use Rattle.lms.specs.Tree.{height}
-use Rattle.lms.specs.Check.{oneTimeBytes, pathAt, rootOf, verifies, typed, good, answer}
+use Rattle.lms.specs.Check.{oneTimeBytes, signatureLength, rootOf, verifies, typed, good, answer}
 
 -- ---- known types
 
 module _ (o : Parameters) (h : ℕ) (key message sig : List ℕ) where
-  pub wrong-length : (length sig ≡ pathAt o + 32 * h → ⊥) → false ≡ verifies o h key message sig
+  pub wrong-length : (length sig ≡ signatureLength o h → ⊥) → false ≡ verifies o h key message sig
   unfolding verifies
   wrong-length a = rw (ne-eqb _ _ a)
 
-  module _ (long : length sig ≡ pathAt o + 32 * h) where
+  module _ (long : length sig ≡ signatureLength o h) where
     pub wrong-one-time : (numberAt 4 sig 4 ≡ numberAt 4 key 4 → ⊥) → false ≡ verifies o h key message sig
     unfolding verifies
     wrong-one-time a = rw (eq-eqb _ _ long, ne-eqb _ _ a)

@@ -26,6 +26,10 @@ oneTimeBytes o = 32 * (o .chains + 1)
 unfoldable pub pathAt : Parameters → ℕ
 pathAt o = 8 + oneTimeBytes o + 4
 
+-- S: the bytes of a signature of a height
+unfoldable pub signatureLength : Parameters → ℕ → ℕ
+signatureLength o h = pathAt o + 32 * h
+
 module _ (o : Parameters) (h : ℕ) (key message signature : List ℕ) where
   -- algorithm 6a, steps 2 to 5: Tc
   unfoldable pub rootOf : List ℕ
@@ -38,7 +42,7 @@ module _ (o : Parameters) (h : ℕ) (key message signature : List ℕ) where
   -- algorithm 6a, step 2, and algorithm 6, step 4, for known types
   unfoldable pub verifies : Bool
   verifies =
-      cond (eqb (length signature) (pathAt o + 32 * h))  -- 2.d, 2.i
+      cond (eqb (length signature) (signatureLength o h))  -- 2.d, 2.i
       (cond (eqb (numberAt 4 signature 4) (numberAt 4 key 4))  -- 2.c
       (cond (eqb (numberAt 4 signature (8 + oneTimeBytes o)) (numberAt 4 key 0))  -- 2.g
       (cond (ltb (numberAt 4 signature 0) (2 ^ h))  -- 2.i

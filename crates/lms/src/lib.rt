@@ -44,7 +44,7 @@ pub fn height_of(number: u32) -> Height
 // The root that a signature of the right length and leaf number leads to (RFC 8554, 5.4.2, algorithm 6a).
 fn root_of(o: Parameters, h: u32, key: &[u8], message: &[u8], signature: &[u8]) -> State
     requires { ⌜ Listed o × (h ≤ 25) × (length (now key) ≡ 56) × (length (now message) ≤ 16777216)
-        × (length (now signature) ≡ rfc.pathAt o + 32 * h) × (numberAt 4 (now signature) 0 < 2 ^ h) ⌝ }
+        × (length (now signature) ≡ rfc.signatureLength o h) × (numberAt 4 (now signature) 0 < 2 ^ h) ⌝ }
     ensures { λ r. ⌜ bytesOf r ≡ rfc.rootOf o h (now (key .entry)) (now (message .entry)) (now (signature .entry)) ⌝ }
 {
     let leaf = lm_hash::leaf_at(key, 8, words::u32_at(signature, 0));

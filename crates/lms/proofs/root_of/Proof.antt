@@ -12,32 +12,32 @@ use Rattle.lm_hash.specs.Identifier.{identifier}
 use Rattle.lm_ots.specs.Candidate.{candidate}
 use Rattle.lm_ots.proofs.Rows.{few}
 use Rattle.lms.specs.Tree.{root}
-use Rattle.lms.specs.Check.{oneTimeBytes, pathAt, rootOf}
+use Rattle.lms.specs.Check.{oneTimeBytes, pathAt, signatureLength, rootOf}
 use borrow.Author.Needs.{needs}
 use Rattle.lms.proofs.root_of.Statement.{statement}
 use Rattle.lms.proofs.root_of.Tie as tie
 
 u32-at-requires : tie.Need-u32-at-requires
-unfolding pathAt oneTimeBytes
+unfolding signatureLength pathAt oneTimeBytes
 u32-at-requires c κs = omega (arith, few (c .before .before .before .args .o) (c .before .before .before .pre .0), c .before .before .before .pre .4)
 
 leaf-at-requires : tie.Need-leaf-at-requires
 leaf-at-requires c κs = search needs
 
 add-end : tie.Need-add-end
-unfolding pathAt oneTimeBytes
+unfolding signatureLength pathAt oneTimeBytes
 add-end c = omega (arith, few (c .before .before .before .before .before .before .args .o) (c .before .before .before .before .before .before .pre .0), c .before .before .before .before .before .before .pre .4)
 
 mul-end : tie.Need-mul-end
-unfolding pathAt oneTimeBytes
+unfolding signatureLength pathAt oneTimeBytes
 mul-end c = omega (arith, few (c .before .before .before .before .before .before .args .o) (c .before .before .before .before .before .before .pre .0), c .before .before .before .before .before .before .pre .4)
 
 add-end-2 : tie.Need-add-end-2
-unfolding pathAt oneTimeBytes
+unfolding signatureLength pathAt oneTimeBytes
 add-end-2 c = omega (arith, few (c .before .before .before .before .before .before .args .o) (c .before .before .before .before .before .before .pre .0), c .before .before .before .before .before .before .pre .4)
 
 add-path : tie.Need-add-path
-unfolding pathAt oneTimeBytes
+unfolding signatureLength pathAt oneTimeBytes
 add-path c = omega (arith, few (c .before .before .before .before .before .before .args .o) (c .before .before .before .before .before .before .pre .0), c .before .before .before .before .before .before .pre .4)
 
 sub-candidate : tie.Need-sub-candidate
@@ -47,25 +47,25 @@ part-candidate-start : tie.Need-part-candidate-start
 part-candidate-start c = search needs
 
 part-candidate-end : tie.Need-part-candidate-end
-unfolding pathAt oneTimeBytes
+unfolding signatureLength pathAt oneTimeBytes
 part-candidate-end c = omega (arith, few (c .before .before .before .before .before .before .args .o) (c .before .before .before .before .before .before .pre .0), c .before .before .before .before .before .before .pre .4)
 
 candidate-requires : tie.Need-candidate-requires
 candidate-requires c κs = search needs
 
 sub-root : tie.Need-sub-root
-unfolding pathAt oneTimeBytes
+unfolding signatureLength pathAt oneTimeBytes
 sub-root c = omega (arith, few (c .before .before .before .before .before .before .before .before .args .o) (c .before .before .before .before .before .before .before .before .pre .0), c .before .before .before .before .before .before .before .before .pre .4)
 
 part-root-start : tie.Need-part-root-start
-unfolding pathAt oneTimeBytes
+unfolding signatureLength pathAt oneTimeBytes
 part-root-start c = omega (arith, few (c .before .before .before .before .before .before .before .before .args .o) (c .before .before .before .before .before .before .before .before .pre .0), c .before .before .before .before .before .before .before .before .pre .4)
 
 part-root-end : tie.Need-part-root-end
 part-root-end c = search needs
 
 root-requires : tie.Need-root-requires
-unfolding pathAt oneTimeBytes
+unfolding signatureLength pathAt oneTimeBytes
 root-requires c κs =
     let start = c .before .before .before .before .before .before .before .before .before in
     let sig = start .args .signature .now in
@@ -73,7 +73,7 @@ root-requires c κs =
     (start .pre .1, rw leaf (start .pre .5), rw (part-end sig (pathAt (start .args .o)), length-drop) (omega (arith, start .pre .4)))
 
 returns : tie.Need-returns
-unfolding pathAt oneTimeBytes rootOf
+unfolding signatureLength pathAt oneTimeBytes rootOf
 returns c =
     let start = c .before .before .before .before .before .before .before .before .before .before in
     let o = start .args .o in

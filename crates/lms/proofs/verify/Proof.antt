@@ -7,7 +7,7 @@ use native.Mathlib.Omega.{arith}
 use lib.ListN.{drop}
 use Rattle.words.specs.BigEndian.{same}
 use Rattle.lm_ots.proofs.Rows.{few}
-use Rattle.lms.specs.Check.{oneTimeBytes, pathAt}
+use Rattle.lms.specs.Check.{oneTimeBytes, pathAt, signatureLength}
 use Rattle.lms.proofs.Answers.{wrong-length, wrong-one-time, wrong-tree, wrong-leaf, by-root}
 use Rattle.lms.proofs.Nodes.{shifted-one}
 use borrow.Author.Needs.{needs}
@@ -33,7 +33,7 @@ add-if1-2 : tie.Need-add-if1-2
 add-if1-2 c = omega (arith, few (c .before .before .before .before .args .o) (c .before .before .before .before .pre .0))
 
 returns : tie.Need-returns
-unfolding pathAt oneTimeBytes
+unfolding signatureLength pathAt oneTimeBytes
 returns c =
     let a = c .before .before .before .before .before .args in
     let o = a .o in
@@ -50,7 +50,7 @@ u32-at-requires-2 : tie.Need-u32-at-requires-2
 u32-at-requires-2 c κs = search needs
 
 returns-2 : tie.Need-returns-2
-unfolding pathAt oneTimeBytes
+unfolding signatureLength pathAt oneTimeBytes
 returns-2 c =
     let a = c .before .before .before .before .before .before .before .before .args in
     let o = a .o in
@@ -67,7 +67,7 @@ u32-at-requires-4 : tie.Need-u32-at-requires-4
 u32-at-requires-4 c κs = search needs
 
 returns-3 : tie.Need-returns-3
-unfolding pathAt oneTimeBytes
+unfolding signatureLength pathAt oneTimeBytes
 returns-3 c =
     let a = c .before .before .before .before .before .before .before .before .before .before .before .args in
     let o = a .o in
@@ -84,7 +84,7 @@ u32-at-requires-5 : tie.Need-u32-at-requires-5
 u32-at-requires-5 c κs = search needs
 
 returns-4 : tie.Need-returns-4
-unfolding pathAt oneTimeBytes
+unfolding signatureLength pathAt oneTimeBytes
 returns-4 c =
     let a = c .before .before .before .before .before .before .before .before .before .before .before .before .before .args in
     let o = a .o in
@@ -96,7 +96,7 @@ returns-4 c =
     (rw (← c .before .u32-at5 .ensures .0, ← shifted-one h (c .before .before .before .before .before .before .before .before .before .before .before .before .before .pre .1)) (c .if4 .taken))
 
 root-of-requires : tie.Need-root-of-requires
-unfolding pathAt oneTimeBytes
+unfolding signatureLength pathAt oneTimeBytes
 root-of-requires c κs =
     let start = c .before .before .before .before .before .before .before .before .before .before .before .before .before in
     let p = start .pre in (
@@ -112,7 +112,7 @@ matches-requires : tie.Need-matches-requires
 matches-requires c κs = search needs
 
 returns-5 : tie.Need-returns-5
-unfolding pathAt oneTimeBytes
+unfolding signatureLength pathAt oneTimeBytes
 returns-5 c =
     let a = c .before .before .before .before .before .before .before .before .before .before .before .before .before .before .before .args in
     let o = a .o in
