@@ -11,27 +11,6 @@ use borrow.Author.Needs.{needs}
 use Rattle.lm_hash.proofs.leaf_at.Statement.{statement}
 use Rattle.lm_hash.proofs.leaf_at.Tie as tie
 
-u32-at-requires : tie.Need-u32-at-requires
-u32-at-requires c κs = search needs
-
-add-u32-at : tie.Need-add-u32-at
-add-u32-at c = search needs
-
-u32-at-requires-2 : tie.Need-u32-at-requires-2
-u32-at-requires-2 c κs = search needs
-
-add-u32-at-2 : tie.Need-add-u32-at-2
-add-u32-at-2 c = search needs
-
-u32-at-requires-3 : tie.Need-u32-at-requires-3
-u32-at-requires-3 c κs = search needs
-
-add-u32-at-3 : tie.Need-add-u32-at-3
-add-u32-at-3 c = search needs
-
-u32-at-requires-4 : tie.Need-u32-at-requires-4
-u32-at-requires-4 c κs = search needs
-
 returns : tie.Need-returns
 unfolding identifier flatMap be
 returns c =
@@ -46,11 +25,11 @@ pub leaf-at-spec : {M : Type 1} → statement M
 leaf-at-spec =
     tie.close
     (tie.spec
-    u32-at-requires
-    add-u32-at
-    u32-at-requires-2
-    add-u32-at-2
-    u32-at-requires-3
-    add-u32-at-3
-    u32-at-requires-4
+    (λ c κs. search needs)
+    (λ c. search needs)
+    (λ c κs. search needs)
+    (λ c. search needs)
+    (λ c κs. search needs)
+    (λ c. search needs)
+    (λ c κs. search needs)
     returns)

@@ -15,22 +15,10 @@ use borrow.Author.Needs.{needs}
 use Rattle.lm_hash.proofs.tagged_message.Statement.{statement}
 use Rattle.lm_hash.proofs.tagged_message.Tie as tie
 
-head-requires : tie.Need-head-requires
-head-requires c κs = search needs
-
-array-share-prefix-bytes : tie.Need-array-share-prefix-bytes
-array-share-prefix-bytes c = search needs
-
 slice-aggregate-first-block : tie.Need-slice-aggregate-first-block
 slice-aggregate-first-block c =
     let long : length (c .before .head .result) ≡ 32 = search needs in
     simp length-take (omega arith)
-
-first-block-requires : tie.Need-first-block-requires
-first-block-requires c κs = search needs
-
-array-share-prefix-block : tie.Need-array-share-prefix-block
-array-share-prefix-block c = search needs
 
 slice-aggregate-joined : tie.Need-slice-aggregate-joined
 slice-aggregate-joined c =
@@ -59,11 +47,11 @@ pub tagged-message-spec : {M : Type 1} → statement M
 tagged-message-spec =
     tie.close
     (tie.spec
-    head-requires
-    array-share-prefix-bytes
+    (λ c κs. search needs)
+    (λ c. search needs)
     slice-aggregate-first-block
-    first-block-requires
-    array-share-prefix-block
+    (λ c κs. search needs)
+    (λ c. search needs)
     slice-aggregate-joined
     joined-requires
     returns)

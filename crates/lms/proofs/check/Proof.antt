@@ -25,18 +25,6 @@ returns-2 c =
     let sig = a .signature .now in
     wrong-key key message sig (c .before .if1 .left) (c .if2 .taken)
 
-u32-at-requires : tie.Need-u32-at-requires
-u32-at-requires c κs = search needs
-
-one-time-requires : tie.Need-one-time-requires
-one-time-requires c κs = search needs
-
-enum-known-o : tie.Need-enum-known-o
-enum-known-o c = search needs
-
-enum-told : tie.Need-enum-told
-enum-told c = search needs
-
 returns-3 : tie.Need-returns-3
 returns-3 c =
     let a = c .before .before .before .before .before .before .before .before .before .args in
@@ -44,18 +32,6 @@ returns-3 c =
     let message = a .message .now in
     let sig = a .signature .now in
     no-one-time key message sig (c .before .before .before .before .before .if1 .left) (c .before .before .before .before .if2 .left) (sym (c .before .before .one-time .ensures ∙ ap oneTime (c .before .before .before .u32-at .ensures .0)) ∙ c .enum-told .given .1)
-
-u32-at-requires-2 : tie.Need-u32-at-requires-2
-u32-at-requires-2 c κs = search needs
-
-height-of-requires : tie.Need-height-of-requires
-height-of-requires c κs = search needs
-
-enum-known-h : tie.Need-enum-known-h
-enum-known-h c = search needs
-
-enum-told-2 : tie.Need-enum-told-2
-enum-told-2 c = search needs
 
 returns-4 : tie.Need-returns-4
 returns-4 c =
@@ -101,15 +77,15 @@ check-spec =
     (tie.spec
     returns
     returns-2
-    u32-at-requires
-    one-time-requires
-    enum-known-o
-    enum-told
+    (λ c κs. search needs)
+    (λ c κs. search needs)
+    (λ c. search needs)
+    (λ c. search needs)
     returns-3
-    u32-at-requires-2
-    height-of-requires
-    enum-known-h
-    enum-told-2
+    (λ c κs. search needs)
+    (λ c κs. search needs)
+    (λ c. search needs)
+    (λ c. search needs)
     returns-4
     verify-requires
     returns-5

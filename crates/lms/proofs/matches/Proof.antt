@@ -12,24 +12,6 @@ use borrow.Author.Needs.{needs}
 use Rattle.lms.proofs.matches.Statement.{statement}
 use Rattle.lms.proofs.matches.Tie as tie
 
-bytes-requires : tie.Need-bytes-requires
-bytes-requires c κs = search needs
-
-slice-aggregate-same : tie.Need-slice-aggregate-same
-slice-aggregate-same c = search needs
-
-sub-same : tie.Need-sub-same
-sub-same c = search needs
-
-part-same-start : tie.Need-part-same-start
-part-same-start c = search needs
-
-part-same-end : tie.Need-part-same-end
-part-same-end c = search needs
-
-same-requires : tie.Need-same-requires
-same-requires c κs = search needs
-
 returns : tie.Need-returns
 returns c =
     let start = c .before .before .before .before .before in
@@ -42,10 +24,10 @@ pub matches-spec : {M : Type 1} → statement M
 matches-spec =
     tie.close
     (tie.spec
-    bytes-requires
-    slice-aggregate-same
-    sub-same
-    part-same-start
-    part-same-end
-    same-requires
+    (λ c κs. search needs)
+    (λ c. search needs)
+    (λ c. search needs)
+    (λ c. search needs)
+    (λ c. search needs)
+    (λ c κs. search needs)
     returns)

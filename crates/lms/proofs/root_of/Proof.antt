@@ -21,9 +21,6 @@ u32-at-requires : tie.Need-u32-at-requires
 unfolding signatureLength pathAt oneTimeBytes
 u32-at-requires c κs = omega (arith, few (c .before .before .before .args .o) (c .before .before .before .pre .0), c .before .before .before .pre .4)
 
-leaf-at-requires : tie.Need-leaf-at-requires
-leaf-at-requires c κs = search needs
-
 add-end : tie.Need-add-end
 unfolding signatureLength pathAt oneTimeBytes
 add-end c = omega (arith, few (c .before .before .before .before .before .before .args .o) (c .before .before .before .before .before .before .pre .0), c .before .before .before .before .before .before .pre .4)
@@ -40,18 +37,9 @@ add-path : tie.Need-add-path
 unfolding signatureLength pathAt oneTimeBytes
 add-path c = omega (arith, few (c .before .before .before .before .before .before .args .o) (c .before .before .before .before .before .before .pre .0), c .before .before .before .before .before .before .pre .4)
 
-sub-candidate : tie.Need-sub-candidate
-sub-candidate c = search needs
-
-part-candidate-start : tie.Need-part-candidate-start
-part-candidate-start c = search needs
-
 part-candidate-end : tie.Need-part-candidate-end
 unfolding signatureLength pathAt oneTimeBytes
 part-candidate-end c = omega (arith, few (c .before .before .before .before .before .before .args .o) (c .before .before .before .before .before .before .pre .0), c .before .before .before .before .before .before .pre .4)
-
-candidate-requires : tie.Need-candidate-requires
-candidate-requires c κs = search needs
 
 sub-root : tie.Need-sub-root
 unfolding signatureLength pathAt oneTimeBytes
@@ -60,9 +48,6 @@ sub-root c = omega (arith, few (c .before .before .before .before .before .befor
 part-root-start : tie.Need-part-root-start
 unfolding signatureLength pathAt oneTimeBytes
 part-root-start c = omega (arith, few (c .before .before .before .before .before .before .before .before .args .o) (c .before .before .before .before .before .before .before .before .pre .0), c .before .before .before .before .before .before .before .before .pre .4)
-
-part-root-end : tie.Need-part-root-end
-part-root-end c = search needs
 
 root-requires : tie.Need-root-requires
 unfolding signatureLength pathAt oneTimeBytes
@@ -99,17 +84,17 @@ root-of-spec =
     tie.close
     (tie.spec
     u32-at-requires
-    leaf-at-requires
+    (λ c κs. search needs)
     add-end
     mul-end
     add-end-2
     add-path
-    sub-candidate
-    part-candidate-start
+    (λ c. search needs)
+    (λ c. search needs)
     part-candidate-end
-    candidate-requires
+    (λ c κs. search needs)
     sub-root
     part-root-start
-    part-root-end
+    (λ c. search needs)
     root-requires
     returns)

@@ -26,9 +26,6 @@ add-end-2 c = omega (arith, few (c .before .before .before .before .args .o) (c 
 add-if1 : tie.Need-add-if1
 add-if1 c = omega (arith, few (c .before .before .before .before .args .o) (c .before .before .before .before .pre .0))
 
-mul-if1 : tie.Need-mul-if1
-mul-if1 c = search needs
-
 add-if1-2 : tie.Need-add-if1-2
 add-if1-2 c = omega (arith, few (c .before .before .before .before .args .o) (c .before .before .before .before .pre .0))
 
@@ -43,12 +40,6 @@ returns c =
     let sig = a .signature .now in
     wrong-length o h key message sig (c .if1 .taken)
 
-u32-at-requires : tie.Need-u32-at-requires
-u32-at-requires c κs = search needs
-
-u32-at-requires-2 : tie.Need-u32-at-requires-2
-u32-at-requires-2 c κs = search needs
-
 returns-2 : tie.Need-returns-2
 unfolding signatureLength pathAt oneTimeBytes
 returns-2 c =
@@ -60,12 +51,6 @@ returns-2 c =
     let sig = a .signature .now in
     wrong-one-time o h key message sig (c .before .before .before .if1 .left) (λ e. c .if2 .taken (c .before .before .u32-at .ensures .0 ∙ e ∙ sym (c .before .u32-at2 .ensures .0)))
 
-u32-at-requires-3 : tie.Need-u32-at-requires-3
-u32-at-requires-3 c κs = search needs
-
-u32-at-requires-4 : tie.Need-u32-at-requires-4
-u32-at-requires-4 c κs = search needs
-
 returns-3 : tie.Need-returns-3
 unfolding signatureLength pathAt oneTimeBytes
 returns-3 c =
@@ -76,12 +61,6 @@ returns-3 c =
     let message = a .message .now in
     let sig = a .signature .now in
     wrong-tree o h key message sig (c .before .before .before .before .before .before .if1 .left) (sym (c .before .before .before .before .before .u32-at .ensures .0) ∙ c .before .before .before .if2 .left ∙ c .before .before .before .before .u32-at2 .ensures .0) (λ e. c .if3 .taken (c .before .before .u32-at3 .ensures .0 ∙ e ∙ sym (c .before .u32-at4 .ensures .0)))
-
-shl-if4 : tie.Need-shl-if4
-shl-if4 c = search needs
-
-u32-at-requires-5 : tie.Need-u32-at-requires-5
-u32-at-requires-5 c κs = search needs
 
 returns-4 : tie.Need-returns-4
 unfolding signatureLength pathAt oneTimeBytes
@@ -108,9 +87,6 @@ root-of-requires c κs =
       rw (← c .before .u32-at5 .ensures .0, ← shifted-one (start .args .h) (p .1)) (c .if4 .left),
     )
 
-matches-requires : tie.Need-matches-requires
-matches-requires c κs = search needs
-
 returns-5 : tie.Need-returns-5
 unfolding signatureLength pathAt oneTimeBytes
 returns-5 c =
@@ -133,18 +109,18 @@ verify-spec =
     mul-end
     add-end-2
     add-if1
-    mul-if1
+    (λ c. search needs)
     add-if1-2
     returns
-    u32-at-requires
-    u32-at-requires-2
+    (λ c κs. search needs)
+    (λ c κs. search needs)
     returns-2
-    u32-at-requires-3
-    u32-at-requires-4
+    (λ c κs. search needs)
+    (λ c κs. search needs)
     returns-3
-    shl-if4
-    u32-at-requires-5
+    (λ c. search needs)
+    (λ c κs. search needs)
     returns-4
     root-of-requires
-    matches-requires
+    (λ c κs. search needs)
     returns-5)

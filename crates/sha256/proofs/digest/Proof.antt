@@ -27,30 +27,6 @@ long-bytes m before h = rw (lt-ltb 16777216 (length m) h)
 returns : tie.Need-returns
 returns c = search (long-number, long-bytes)
 
-mul-whole : tie.Need-mul-whole
-mul-whole c = search needs
-
-new-requires : tie.Need-new-requires
-new-requires c κs = search needs
-
-absorb-all-requires : tie.Need-absorb-all-requires
-absorb-all-requires c κs = search needs
-
-sub-finish : tie.Need-sub-finish
-sub-finish c = search needs
-
-part-finish-start : tie.Need-part-finish-start
-part-finish-start c = search needs
-
-part-finish-end : tie.Need-part-finish-end
-part-finish-end c = search needs
-
-finish-requires : tie.Need-finish-requires
-finish-requires c κs = search needs
-
-bytes-requires : tie.Need-bytes-requires
-bytes-requires c κs = search needs
-
 returns-2 : tie.Need-returns-2
 unfolding digestNumber digestAfter tooLong limit
 returns-2 c =
@@ -70,12 +46,12 @@ digest-spec =
     tie.close
     (tie.spec
     returns
-    mul-whole
-    new-requires
-    absorb-all-requires
-    sub-finish
-    part-finish-start
-    part-finish-end
-    finish-requires
-    bytes-requires
+    (λ c. search needs)
+    (λ c κs. search needs)
+    (λ c κs. search needs)
+    (λ c. search needs)
+    (λ c. search needs)
+    (λ c. search needs)
+    (λ c κs. search needs)
+    (λ c κs. search needs)
     returns-2)

@@ -11,18 +11,6 @@ use borrow.Author.Needs.{needs}
 use Rattle.sha256.proofs.sealed.Statement.{statement}
 use Rattle.sha256.proofs.sealed.Tie as tie
 
-slice-aggregate-put-u32 : tie.Need-slice-aggregate-put-u32
-slice-aggregate-put-u32 c = search needs
-
-put-u32-requires : tie.Need-put-u32-requires
-put-u32-requires c κs = search needs
-
-slice-aggregate-block-at : tie.Need-slice-aggregate-block-at
-slice-aggregate-block-at c = search needs
-
-block-at-requires : tie.Need-block-at-requires
-block-at-requires c κs = search needs
-
 returns : tie.Need-returns
 returns c =
     let a = c .before .before .before .before .before .args in
@@ -35,8 +23,8 @@ pub sealed-spec : {M : Type 1} → statement M
 sealed-spec =
     tie.close
     (tie.spec
-    slice-aggregate-put-u32
-    put-u32-requires
-    slice-aggregate-block-at
-    block-at-requires
+    (λ c. search needs)
+    (λ c κs. search needs)
+    (λ c. search needs)
+    (λ c κs. search needs)
     returns)

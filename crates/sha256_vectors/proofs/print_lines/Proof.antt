@@ -13,32 +13,8 @@ Inv-loop text at₀ at = Unit {0}
 abbrev μ-loop : tie.MeasureT-loop
 μ-loop text at₀ at = length text - at
 
-loop-holds : tie.Need-loop-holds Inv-loop μ-loop
-loop-holds c = search needs
-
-sub-print-digest : tie.Need-sub-print-digest Inv-loop μ-loop
-sub-print-digest c = search needs
-
-part-print-digest-start : tie.Need-part-print-digest-start Inv-loop μ-loop
-part-print-digest-start c = search needs
-
-part-print-digest-end : tie.Need-part-print-digest-end Inv-loop μ-loop
-part-print-digest-end c = search needs
-
-print-digest-requires : tie.Need-print-digest-requires Inv-loop μ-loop
-print-digest-requires c κs = search needs
-
-past-requires : tie.Need-past-requires Inv-loop μ-loop
-past-requires c κs = search needs
-
 loop-less : tie.Need-loop-less Inv-loop μ-loop
 loop-less c = omega (arith, c .past .ensures .1 (omega arith))
-
-loop-again : tie.Need-loop-again Inv-loop μ-loop
-loop-again c = search needs
-
-returns : tie.Need-returns Inv-loop μ-loop
-returns c = search needs
 
 pub print-lines-spec : {M : Type 1} → statement M
 print-lines-spec =
@@ -46,12 +22,12 @@ print-lines-spec =
     (tie.spec
     Inv-loop
     μ-loop
-    loop-holds
-    sub-print-digest
-    part-print-digest-start
-    part-print-digest-end
-    print-digest-requires
-    past-requires
+    (λ c. search needs)
+    (λ c. search needs)
+    (λ c. search needs)
+    (λ c. search needs)
+    (λ c κs. search needs)
+    (λ c κs. search needs)
     loop-less
-    loop-again
-    returns)
+    (λ c. search needs)
+    (λ c. search needs))

@@ -9,18 +9,6 @@ use borrow.Author.Needs.{needs}
 use Rattle.words.proofs.put_u16.Statement.{statement}
 use Rattle.words.proofs.put_u16.Tie as tie
 
-cast-out : tie.Need-cast-out
-cast-out c = search needs
-
-slice-write-out : tie.Need-slice-write-out
-slice-write-out c = search needs
-
-cast-out-2 : tie.Need-cast-out-2
-cast-out-2 c = search needs
-
-add-out : tie.Need-add-out
-add-out c = search needs
-
 slice-write-out-2 : tie.Need-slice-write-out-2
 slice-write-out-2 c = simp length-set (omega arith)
 
@@ -34,4 +22,10 @@ returns c = simp (towards-suc, div-one)
 pub put-u16-spec : {M : Type 1} → statement M
 put-u16-spec =
     tie.close
-    (tie.spec cast-out slice-write-out cast-out-2 add-out slice-write-out-2 same-length returns)
+    (tie.spec (λ c. search needs)
+    (λ c. search needs)
+    (λ c. search needs)
+    (λ c. search needs)
+    slice-write-out-2
+    same-length
+    returns)

@@ -8,19 +8,10 @@ use borrow.Author.Needs.{needs}
 use Rattle.lm_hash.proofs.message.byte_at.Statement.{statement}
 use Rattle.lm_hash.proofs.message.byte_at.Tie as tie
 
-shared-slice-read-result : tie.Need-shared-slice-read-result
-shared-slice-read-result c = search needs
-
 returns : tie.Need-returns
 returns c =
     let a = c .before .before .args in
     sym (List·getD-append (a .head .now) (a .message .now) 0 (a .i) (c .before .if1 .taken))
-
-sub-j : tie.Need-sub-j
-sub-j c = search needs
-
-shared-slice-read-result-2 : tie.Need-shared-slice-read-result-2
-shared-slice-read-result-2 c = search needs
 
 returns-2 : tie.Need-returns-2
 returns-2 c =
@@ -36,9 +27,9 @@ pub byte-at-spec : {M : Type 1} → statement M
 byte-at-spec =
     tie.close
     (tie.spec
-    shared-slice-read-result
+    (λ c. search needs)
     returns
-    sub-j
-    shared-slice-read-result-2
+    (λ c. search needs)
+    (λ c. search needs)
     returns-2
     returns-3)

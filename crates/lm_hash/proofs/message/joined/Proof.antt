@@ -12,18 +12,6 @@ use borrow.Author.Needs.{needs}
 use Rattle.lm_hash.proofs.message.joined.Statement.{statement}
 use Rattle.lm_hash.proofs.message.joined.Tie as tie
 
-add-total : tie.Need-add-total
-add-total c = search needs
-
-first-block-requires : tie.Need-first-block-requires
-first-block-requires c κs = search needs
-
-new-requires : tie.Need-new-requires
-new-requires c κs = search needs
-
-array-share-prefix-block : tie.Need-array-share-prefix-block
-array-share-prefix-block c = search needs
-
 slice-aggregate-finish : tie.Need-slice-aggregate-finish
 slice-aggregate-finish c =
     let long : length (c .before .before .before .first-block .result) ≡ 64 = search needs in
@@ -39,48 +27,6 @@ returns c =
     let a = c .before .before .before .before .before .before .before .args in
     simp (c .finish .ensures, c .before .before .new .ensures, c .before .before .before .before .first-block .ensures)
     (short-digest (a .head .now) (a .message .now) (c .before .before .before .if1 .taken))
-
-sub-room : tie.Need-sub-room
-sub-room c = search needs
-
-sub-rest : tie.Need-sub-rest
-sub-rest c = search needs
-
-part-rest-start : tie.Need-part-rest-start
-part-rest-start c = search needs
-
-part-rest-end : tie.Need-part-rest-end
-part-rest-end c = search needs
-
-mul-whole : tie.Need-mul-whole
-mul-whole c = search needs
-
-new-requires-2 : tie.Need-new-requires-2
-new-requires-2 c κs = search needs
-
-slice-aggregate-block-at : tie.Need-slice-aggregate-block-at
-slice-aggregate-block-at c = search needs
-
-block-at-requires : tie.Need-block-at-requires
-block-at-requires c κs = search needs
-
-absorb-requires : tie.Need-absorb-requires
-absorb-requires c κs = search needs
-
-absorb-all-requires : tie.Need-absorb-all-requires
-absorb-all-requires c κs = search needs
-
-sub-finish : tie.Need-sub-finish
-sub-finish c = search needs
-
-part-finish-start : tie.Need-part-finish-start
-part-finish-start c = search needs
-
-part-finish-end : tie.Need-part-finish-end
-part-finish-end c = search needs
-
-finish-requires-2 : tie.Need-finish-requires-2
-finish-requires-2 c κs = search needs
 
 returns-2 : tie.Need-returns-2
 returns-2 c =
@@ -112,25 +58,25 @@ pub joined-spec : {M : Type 1} → statement M
 joined-spec =
     tie.close
     (tie.spec
-    add-total
-    first-block-requires
-    new-requires
-    array-share-prefix-block
+    (λ c. search needs)
+    (λ c κs. search needs)
+    (λ c κs. search needs)
+    (λ c. search needs)
     slice-aggregate-finish
     finish-requires
     returns
-    sub-room
-    sub-rest
-    part-rest-start
-    part-rest-end
-    mul-whole
-    new-requires-2
-    slice-aggregate-block-at
-    block-at-requires
-    absorb-requires
-    absorb-all-requires
-    sub-finish
-    part-finish-start
-    part-finish-end
-    finish-requires-2
+    (λ c. search needs)
+    (λ c. search needs)
+    (λ c. search needs)
+    (λ c. search needs)
+    (λ c. search needs)
+    (λ c κs. search needs)
+    (λ c. search needs)
+    (λ c κs. search needs)
+    (λ c κs. search needs)
+    (λ c κs. search needs)
+    (λ c. search needs)
+    (λ c. search needs)
+    (λ c. search needs)
+    (λ c κs. search needs)
     returns-2)

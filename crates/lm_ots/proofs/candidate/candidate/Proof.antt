@@ -23,28 +23,10 @@ tagged-message-requires : tie.Need-tagged-message-requires
 tagged-message-requires c κs =
     (lit< tt, simp length-take (omega (arith, c .before .before .before .pre .2)), c .before .before .before .pre .1)
 
-bytes-requires : tie.Need-bytes-requires
-bytes-requires c κs = search needs
-
 with-checksum-requires : tie.Need-with-checksum-requires
 with-checksum-requires c κs =
     let start = c .before .before .before .before .before in
     (width (start .args .o) (start .pre .0), shift-below (start .args .o) (start .pre .0))
-
-slice-aggregate-put-ends : tie.Need-slice-aggregate-put-ends
-slice-aggregate-put-ends c = search needs
-
-sub-put-ends : tie.Need-sub-put-ends
-sub-put-ends c = search needs
-
-part-put-ends-start : tie.Need-part-put-ends-start
-part-put-ends-start c = search needs
-
-part-put-ends-end : tie.Need-part-put-ends-end
-part-put-ends-end c = search needs
-
-slice-aggregate-put-ends-2 : tie.Need-slice-aggregate-put-ends-2
-slice-aggregate-put-ends-2 c = search needs
 
 put-ends-requires : tie.Need-put-ends-requires
 put-ends-requires c κs =
@@ -54,9 +36,6 @@ put-ends-requires c κs =
     let rest : length (take (length sig - 32) (drop 32 sig)) ≡ 32 * o .chains =
     rw (part-end sig 32, length-drop) (omega (arith, start .pre .2)) in
     (start .pre .0, search needs, rest, omega (arith, few o (start .pre .0)))
-
-mul-n : tie.Need-mul-n
-mul-n c = search needs
 
 array-share-prefix-ends : tie.Need-array-share-prefix-ends
 array-share-prefix-ends c =
@@ -97,15 +76,15 @@ candidate-spec =
     (tie.spec
     slice-aggregate-tagged-message
     tagged-message-requires
-    bytes-requires
+    (λ c κs. search needs)
     with-checksum-requires
-    slice-aggregate-put-ends
-    sub-put-ends
-    part-put-ends-start
-    part-put-ends-end
-    slice-aggregate-put-ends-2
+    (λ c. search needs)
+    (λ c. search needs)
+    (λ c. search needs)
+    (λ c. search needs)
+    (λ c. search needs)
     put-ends-requires
-    mul-n
+    (λ c. search needs)
     array-share-prefix-ends
     slice-aggregate-tagged
     tagged-requires

@@ -13,15 +13,6 @@ use borrow.Author.Needs.{needs}
 use Rattle.lm_ots.proofs.chain.step.Statement.{statement}
 use Rattle.lm_ots.proofs.chain.step.Tie as tie
 
-new-requires : tie.Need-new-requires
-new-requires c κs = search needs
-
-step-block-requires : tie.Need-step-block-requires
-step-block-requires c κs = search needs
-
-absorb-requires : tie.Need-absorb-requires
-absorb-requires c κs = search needs
-
 returns : tie.Need-returns
 unfolding tagged
 returns c =
@@ -31,4 +22,7 @@ returns c =
     (sym (sha256-one m 55 (step-length (a .leaf) (a .i) (a .j) (a .t)) (omega arith)))
 
 pub step-spec : {M : Type 1} → statement M
-step-spec = tie.close (tie.spec new-requires step-block-requires absorb-requires returns)
+step-spec = tie.close (tie.spec (λ c κs. search needs)
+    (λ c κs. search needs)
+    (λ c κs. search needs)
+    returns)

@@ -28,20 +28,11 @@ Inv-loop q sum s₀ i₀ s i = (i ≤ 32) × (length s ≡ 34) × (take i s ≡ 
 abbrev μ-loop : tie.MeasureT-loop
 μ-loop q sum s₀ i₀ s i = 32 - i
 
-slice-aggregate-digit-sum : tie.Need-slice-aggregate-digit-sum Inv-loop μ-loop
-slice-aggregate-digit-sum c = search needs
-
 digit-sum-requires : tie.Need-digit-sum-requires Inv-loop μ-loop
 digit-sum-requires c κs = (c .before .pre .0, search needs)
 
-shl-checksum : tie.Need-shl-checksum Inv-loop μ-loop
-shl-checksum c = search needs
-
 loop-holds : tie.Need-loop-holds Inv-loop μ-loop
 loop-holds c = (search needs, refl, refl)
-
-array-read-s : tie.Need-array-read-s Inv-loop μ-loop
-array-read-s c = search needs
 
 array-write-s : tie.Need-array-write-s Inv-loop μ-loop
 array-write-s c = omega arith
@@ -64,9 +55,6 @@ loop-again c =
 
 slice-aggregate-put-u16 : tie.Need-slice-aggregate-put-u16 Inv-loop μ-loop
 slice-aggregate-put-u16 c = sym (c .before .before .loop .inv .1)
-
-cast-put-u16 : tie.Need-cast-put-u16 Inv-loop μ-loop
-cast-put-u16 c = search needs
 
 put-u16-requires : tie.Need-put-u16-requires Inv-loop μ-loop
 put-u16-requires c κs = omega arith
@@ -96,16 +84,16 @@ with-checksum-spec =
     (tie.spec
     Inv-loop
     μ-loop
-    slice-aggregate-digit-sum
+    (λ c. search needs)
     digit-sum-requires
-    shl-checksum
+    (λ c. search needs)
     loop-holds
-    array-read-s
+    (λ c. search needs)
     array-write-s
     add-i
     loop-less
     loop-again
     slice-aggregate-put-u16
-    cast-put-u16
+    (λ c. search needs)
     put-u16-requires
     returns)

@@ -9,21 +9,6 @@ use lib.Seq.{take-at}
 use Rattle.lms.proofs.tree.pair.Statement.{statement}
 use Rattle.lms.proofs.tree.pair.Tie as tie
 
-bytes-requires : tie.Need-bytes-requires
-bytes-requires c κs = search needs
-
-bytes-requires-2 : tie.Need-bytes-requires-2
-bytes-requires-2 c κs = search needs
-
-slice-aggregate-first-block : tie.Need-slice-aggregate-first-block
-slice-aggregate-first-block c = search needs
-
-slice-aggregate-first-block-2 : tie.Need-slice-aggregate-first-block-2
-slice-aggregate-first-block-2 c = search needs
-
-first-block-requires : tie.Need-first-block-requires
-first-block-requires c κs = search needs
-
 returns : tie.Need-returns
 returns c =
     let left = c .before .before .before .before .bytes in
@@ -39,9 +24,9 @@ pub pair-spec : {M : Type 1} → statement M
 pair-spec =
     tie.close
     (tie.spec
-    bytes-requires
-    bytes-requires-2
-    slice-aggregate-first-block
-    slice-aggregate-first-block-2
-    first-block-requires
+    (λ c κs. search needs)
+    (λ c κs. search needs)
+    (λ c. search needs)
+    (λ c. search needs)
+    (λ c κs. search needs)
     returns)

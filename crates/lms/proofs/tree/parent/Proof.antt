@@ -9,15 +9,6 @@ use Rattle.lms.specs.Tree.{parent, D-INTR}
 use Rattle.lms.proofs.tree.parent.Statement.{statement}
 use Rattle.lms.proofs.tree.parent.Tie as tie
 
-children-requires : tie.Need-children-requires
-children-requires c κs = search needs
-
-slice-aggregate-tagged : tie.Need-slice-aggregate-tagged
-slice-aggregate-tagged c = search needs
-
-tagged-requires : tie.Need-tagged-requires
-tagged-requires c κs = search needs
-
 returns : tie.Need-returns
 unfolding parent D-INTR
 returns c =
@@ -25,4 +16,7 @@ returns c =
     c .tagged .ensures ∙ ap (tagged (identifier (a .leaf)) (a .node / 2) D-INTR) (c .before .before .children .ensures)
 
 pub parent-spec : {M : Type 1} → statement M
-parent-spec = tie.close (tie.spec children-requires slice-aggregate-tagged tagged-requires returns)
+parent-spec = tie.close (tie.spec (λ c κs. search needs)
+    (λ c. search needs)
+    (λ c κs. search needs)
+    returns)

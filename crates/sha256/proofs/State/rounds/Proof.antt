@@ -6,30 +6,6 @@ use borrow.Author.Needs.{needs}
 use Rattle.sha256.proofs.State.rounds.Statement.{statement}
 use Rattle.sha256.proofs.State.rounds.Tie as tie
 
-rounds-0-requires : tie.Need-rounds-0-requires
-rounds-0-requires c κs = search needs
-
-rounds-8-requires : tie.Need-rounds-8-requires
-rounds-8-requires c κs = search needs
-
-rounds-16-requires : tie.Need-rounds-16-requires
-rounds-16-requires c κs = search needs
-
-rounds-24-requires : tie.Need-rounds-24-requires
-rounds-24-requires c κs = search needs
-
-rounds-32-requires : tie.Need-rounds-32-requires
-rounds-32-requires c κs = search needs
-
-rounds-40-requires : tie.Need-rounds-40-requires
-rounds-40-requires c κs = search needs
-
-rounds-48-requires : tie.Need-rounds-48-requires
-rounds-48-requires c κs = search needs
-
-rounds-56-requires : tie.Need-rounds-56-requires
-rounds-56-requires c κs = search needs
-
 returns : tie.Need-returns
 returns c =
     let a = c .before .before .before .before .before .before .before .before .args in
@@ -49,12 +25,12 @@ pub rounds-spec : {M : Type 1} → statement M
 rounds-spec =
     tie.close
     (tie.spec
-    rounds-0-requires
-    rounds-8-requires
-    rounds-16-requires
-    rounds-24-requires
-    rounds-32-requires
-    rounds-40-requires
-    rounds-48-requires
-    rounds-56-requires
+    (λ c κs. search needs)
+    (λ c κs. search needs)
+    (λ c κs. search needs)
+    (λ c κs. search needs)
+    (λ c κs. search needs)
+    (λ c κs. search needs)
+    (λ c κs. search needs)
+    (λ c κs. search needs)
     returns)

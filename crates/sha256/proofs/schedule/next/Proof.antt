@@ -4,21 +4,6 @@ use borrow.Author.Needs.{needs}
 use Rattle.sha256.proofs.schedule.next.Statement.{statement}
 use Rattle.sha256.proofs.schedule.next.Tie as tie
 
-small-sigma1-requires : tie.Need-small-sigma1-requires
-small-sigma1-requires c κs = search needs
-
-add-requires : tie.Need-add-requires
-add-requires c κs = search needs
-
-small-sigma0-requires : tie.Need-small-sigma0-requires
-small-sigma0-requires c κs = search needs
-
-add-requires-2 : tie.Need-add-requires-2
-add-requires-2 c κs = search needs
-
-add-requires-3 : tie.Need-add-requires-3
-add-requires-3 c κs = search needs
-
 returns : tie.Need-returns
 returns c = cc
 
@@ -26,9 +11,9 @@ pub next-spec : {M : Type 1} → statement M
 next-spec =
     tie.close
     (tie.spec
-    small-sigma1-requires
-    add-requires
-    small-sigma0-requires
-    add-requires-2
-    add-requires-3
+    (λ c κs. search needs)
+    (λ c κs. search needs)
+    (λ c κs. search needs)
+    (λ c κs. search needs)
+    (λ c κs. search needs)
     returns)

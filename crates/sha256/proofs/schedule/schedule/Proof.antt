@@ -48,15 +48,6 @@ loop-again c =
       rw (add-one, take-suc-set (l .w) (l .i) (getD m (l .i) 0) (omega arith), l .inv .2, ← take-suc m (l .i) 0 inside),
     )
 
-words-16-requires : tie.Need-words-16-requires Inv-loop μ-loop
-words-16-requires c κs = search needs
-
-words-32-requires : tie.Need-words-32-requires Inv-loop μ-loop
-words-32-requires c κs = search needs
-
-words-48-requires : tie.Need-words-48-requires Inv-loop μ-loop
-words-48-requires c κs = search needs
-
 returns : tie.Need-returns Inv-loop μ-loop
 unfolding schedule extend
 returns c =
@@ -85,7 +76,7 @@ schedule-spec =
     add-i
     loop-less
     loop-again
-    words-16-requires
-    words-32-requires
-    words-48-requires
+    (λ c κs. search needs)
+    (λ c κs. search needs)
+    (λ c κs. search needs)
     returns)
