@@ -5,6 +5,7 @@ ghost use Prim.Native.Nat.{_+_, _≤_, _<_};
 ghost use lib.ListN.{length, take, drop};
 ghost use lib.Seq.{sets};
 ghost use Rattle.words.specs.BigEndian.{be};
+ghost use Rattle.sha256.specs.Service.{limit};
 ghost use Rattle.sha256.specs.Sha256.{bytesOf};
 ghost use Rattle.lm_hash.specs.Identifier.{identifier};
 ghost use Rattle.lm_hash.specs.Tagged as rfc;
@@ -72,7 +73,7 @@ fn head(leaf: Leaf, q: u32, d: u32) -> [u8; 32]
 
 // H(I || u32str(q) || u16str(d) || rest).
 pub fn tagged(leaf: Leaf, q: u32, d: u32, rest: &[u8]) -> State
-    requires { ⌜ (d < 65536) × (length (now rest) ≤ 16777216) ⌝ }
+    requires { ⌜ (d < 65536) × (length (now rest) ≤ limit) ⌝ }
     ensures { λ r. ⌜ bytesOf r ≡ rfc.tagged (identifier leaf) q d (now (rest .entry)) ⌝ }
 {
     let bytes = head(leaf, q, d);
@@ -81,7 +82,7 @@ pub fn tagged(leaf: Leaf, q: u32, d: u32, rest: &[u8]) -> State
 
 // H(I || u32str(q) || u16str(d) || salt || message), with no copy of the message.
 pub fn tagged_message(leaf: Leaf, q: u32, d: u32, salt: &[u8], message: &[u8]) -> State
-    requires { ⌜ (d < 65536) × (length (now salt) ≡ 32) × (length (now message) ≤ 16777216) ⌝ }
+    requires { ⌜ (d < 65536) × (length (now salt) ≡ 32) × (length (now message) ≤ limit) ⌝ }
     ensures { λ r. ⌜ bytesOf r ≡ rfc.tagged (identifier leaf) q d (now (salt .entry) ++ now (message .entry)) ⌝ }
 {
     let bytes = head(leaf, q, d);

@@ -3,6 +3,7 @@ ghost use mathlib.Core.Path.{_≡_};
 ghost use mathlib.Core.List.{_++_};
 ghost use Prim.Native.Nat.{_≤_, _<_};
 ghost use lib.ListN.{length, take, getD, replicate};
+ghost use Rattle.sha256.specs.Service.{limit};
 ghost use Rattle.sha256.specs.Sha256 as fips;
 use sha256::State;
 
@@ -35,7 +36,7 @@ pub fn first_block(head: &[u8], message: &[u8]) -> [u8; 64]
 
 // The hash value of the two slices, one after the other.
 pub fn joined(head: &[u8], message: &[u8]) -> State
-    requires { ⌜ (length (now head) < 64) × (length (now message) ≤ 16777216) ⌝ }
+    requires { ⌜ (length (now head) < 64) × (length (now message) ≤ limit) ⌝ }
     ensures { λ r. ⌜ fips.bytesOf r ≡ fips.sha256 (now (head .entry) ++ now (message .entry)) ⌝ }
 {
     let total = head.len() + message.len();

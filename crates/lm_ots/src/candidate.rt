@@ -3,6 +3,7 @@ ghost use mathlib.Core.Path.{_≡_};
 ghost use mathlib.Core.List.{_++_};
 ghost use Prim.Native.Nat.{_+_, _*_, _≤_, _<_};
 ghost use lib.ListN.{length, take, drop};
+ghost use Rattle.sha256.specs.Service.{limit};
 ghost use Rattle.sha256.specs.Sha256.{bytesOf};
 ghost use Rattle.lm_hash.specs.Identifier.{identifier};
 ghost use Rattle.lm_ots.specs.Parameters.{Listed};
@@ -38,7 +39,7 @@ fn put_ends(leaf: Leaf, o: Parameters, s: &[u8], y: &[u8], out: &mut [u8])
 
 // Kc, from C and y[0] to y[p-1] one after the other.
 pub fn candidate(leaf: Leaf, o: Parameters, message: &[u8], signature: &[u8]) -> State
-    requires { ⌜ Listed o × (length (now message) ≤ 16777216) × (length (now signature) ≡ 32 * (o .chains + 1)) ⌝ }
+    requires { ⌜ Listed o × (length (now message) ≤ limit) × (length (now signature) ≡ 32 * (o .chains + 1)) ⌝ }
     ensures { λ r. ⌜ bytesOf r ≡ rfc.candidate o (identifier leaf) (leaf .q) (take 32 (now (signature .entry))) (drop 32 (now (signature .entry))) (now (message .entry)) ⌝ }
 {
     let q = lm_hash::tagged_message(leaf, leaf.q, 0x8181, &signature[..32], message);

@@ -17,7 +17,7 @@ use Rattle.lms.specs.declared.Height.{Height}
 use Rattle.lms.specs.declared.Height.the-variants.{Levels, Unknown}
 use Rattle.lms.specs.declared.Answer.the-variants.{Good, Bad, Long}
 use Rattle.lms.specs.Tree.{height}
-use Rattle.lms.specs.Check.{oneTimeBytes, signatureLength, rootOf, verifies, typed, good, answer}
+use Rattle.lms.specs.Check.{keySize, oneTimeBytes, signatureLength, rootOf, verifies, typed, good, answer}
 
 -- ---- known types
 
@@ -63,30 +63,30 @@ height-le number {h} =
     none e = let z : _≡_ {A = ℕ} 0 1 = cc in omega arith
 
 module _ (key message sig : List ℕ) where
-  pub long-message : 16777216 < length message → Long ≡ answer key message sig
-  unfolding answer tooLong limit
+  pub long-message : limit < length message → Long ≡ answer key message sig
+  unfolding answer tooLong
   long-message a = rw (lt-ltb _ _ a)
 
-  module _ (short : length message ≤ 16777216) where
-    pub wrong-key : (length key ≡ 56 → ⊥) → Bad ≡ answer key message sig
-    unfolding answer tooLong limit good
+  module _ (short : length message ≤ limit) where
+    pub wrong-key : (length key ≡ keySize → ⊥) → Bad ≡ answer key message sig
+    unfolding answer tooLong good
     wrong-key a = rw (le-ltb _ _ short, ne-eqb _ _ a)
 
-    module _ (size : length key ≡ 56) where
+    module _ (size : length key ≡ keySize) where
       pub no-one-time : oneTime (numberAt 4 key 4) ≡ NoType → Bad ≡ answer key message sig
-      unfolding answer tooLong limit good typed
+      unfolding answer tooLong good typed
       no-one-time a = rw (le-ltb _ _ short, eq-eqb _ _ size, a)
 
       module _ (o : Parameters) (known : oneTime (numberAt 4 key 4) ≡ Known o) where
         pub no-height : height (numberAt 4 key 0) ≡ Unknown → Bad ≡ answer key message sig
-        unfolding answer tooLong limit good typed
+        unfolding answer tooLong good typed
         no-height a = rw (le-ltb _ _ short, eq-eqb _ _ size, known, a)
 
         module _ (h : ℕ) (levels : height (numberAt 4 key 0) ≡ Levels h) where
           pub verified : verifies o h key message sig ≡ true → Good ≡ answer key message sig
-          unfolding answer tooLong limit good typed
+          unfolding answer tooLong good typed
           verified a = rw (le-ltb _ _ short, eq-eqb _ _ size, known, levels, a)
 
           pub not-verified : verifies o h key message sig ≡ false → Bad ≡ answer key message sig
-          unfolding answer tooLong limit good typed
+          unfolding answer tooLong good typed
           not-verified a = rw (le-ltb _ _ short, eq-eqb _ _ size, known, levels, a)

@@ -18,6 +18,10 @@ use Rattle.lms.specs.declared.Answer.{Answer}
 use Rattle.lms.specs.declared.Answer.the-variants.{Good, Bad, Long}
 use Rattle.lms.specs.Tree.{height, root}
 
+-- 5.3: the bytes of a key: two types, I, T[1]
+abbrev pub keySize : ℕ
+keySize = 56
+
 -- bytes of a one-time signature after its type: C and y[0] to y[p-1]
 unfoldable pub oneTimeBytes : Parameters → ℕ
 oneTimeBytes o = 32 * (o .chains + 1)
@@ -60,7 +64,7 @@ typed (Known o) (Levels h) key message signature = verifies o h key message sign
 
 unfoldable pub good : List ℕ → List ℕ → List ℕ → Bool
 good key message signature =
-    cond (eqb (length key) 56) (typed (oneTime (numberAt 4 key 4)) (height (numberAt 4 key 0)) key message signature) false
+    cond (eqb (length key) keySize) (typed (oneTime (numberAt 4 key 4)) (height (numberAt 4 key 0)) key message signature) false
 
 -- the service's answer: a long message comes before everything
 unfoldable pub answer : List ℕ → List ℕ → List ℕ → Answer

@@ -3,6 +3,7 @@ ghost use mathlib.Core.Path.{_≡_};
 ghost use Prim.Native.Nat.{_+_, _*_, _^_, _≤_, _<_};
 ghost use lib.ListN.{length, drop};
 ghost use Rattle.words.specs.BigEndian.{numberAt, same};
+ghost use Rattle.sha256.specs.Service.{limit};
 ghost use Rattle.sha256.specs.Sha256.{bytesOf};
 ghost use Rattle.lm_ots.specs.Parameters.{Listed};
 ghost use Rattle.lms.specs.Tree.{height};
@@ -13,6 +14,9 @@ mod tree;
 use lm_ots::OneTime;
 use lm_ots::Parameters;
 use sha256::State;
+
+// The bytes of a key (RFC 8554, 5.3).
+pub const KEY_SIZE: usize = 56;
 
 // The height of a tree type.
 pub enum Height {
@@ -43,7 +47,7 @@ pub fn height_of(number: u32) -> Height
 
 // The root that a signature of the right length and leaf number leads to (RFC 8554, 5.4.2, algorithm 6a).
 fn root_of(o: Parameters, h: u32, key: &[u8], message: &[u8], signature: &[u8]) -> State
-    requires { ⌜ Listed o × (h ≤ 25) × (length (now key) ≡ 56) × (length (now message) ≤ 16777216)
+    requires { ⌜ Listed o × (h ≤ 25) × (length (now key) ≡ rfc.keySize) × (length (now message) ≤ limit)
         × (length (now signature) ≡ rfc.signatureLength o h) × (numberAt 4 (now signature) 0 < 2 ^ h) ⌝ }
     ensures { λ r. ⌜ bytesOf r ≡ rfc.rootOf o h (now (key .entry)) (now (message .entry)) (now (signature .entry)) ⌝ }
 {
@@ -56,7 +60,7 @@ fn root_of(o: Parameters, h: u32, key: &[u8], message: &[u8], signature: &[u8]) 
 
 // Whether the root's bytes are the key's.
 fn matches(root: State, key: &[u8]) -> bool
-    requires { ⌜ length (now key) ≡ 56 ⌝ }
+    requires { ⌜ length (now key) ≡ rfc.keySize ⌝ }
     ensures { λ r. ⌜ r ≡ same (bytesOf root) (drop 24 (now (key .entry))) ⌝ }
 {
     let bytes = root.bytes();
@@ -65,7 +69,7 @@ fn matches(root: State, key: &[u8]) -> bool
 
 // Whether a signature verifies under a key of known types (RFC 8554, 5.4.2, algorithms 6 and 6a).
 fn verify(o: Parameters, h: u32, key: &[u8], message: &[u8], signature: &[u8]) -> bool
-    requires { ⌜ Listed o × (h ≤ 25) × (length (now key) ≡ 56) × (length (now message) ≤ 16777216) ⌝ }
+    requires { ⌜ Listed o × (h ≤ 25) × (length (now key) ≡ rfc.keySize) × (length (now message) ≤ limit) ⌝ }
     ensures { λ r. ⌜ r ≡ rfc.verifies o h (now (key .entry)) (now (message .entry)) (now (signature .entry)) ⌝ }
 {
     let end = 8 + 32 * (o.chains + 1);
@@ -88,10 +92,10 @@ fn verify(o: Parameters, h: u32, key: &[u8], message: &[u8], signature: &[u8]) -
 pub fn check(key: &[u8], message: &[u8], signature: &[u8]) -> Answer
     ensures { λ r. ⌜ r ≡ rfc.answer (now (key .entry)) (now (message .entry)) (now (signature .entry)) ⌝ }
 {
-    if 16777216 < message.len() {
+    if sha256::MESSAGE_MAX < message.len() {
         return Answer::Long;
     }
-    if key.len() != 56 {
+    if key.len() != KEY_SIZE {
         return Answer::Bad;
     }
     let OneTime::Known(o) = lm_ots::one_time(words::u32_at(key, 4)) else {

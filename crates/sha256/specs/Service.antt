@@ -8,7 +8,7 @@ use lib.ListN.{length}
 use Rattle.sha256.specs.Sha256.{sha256}
 
 -- the most bytes that a message may have
-unfoldable pub limit : ℕ
+abbrev pub limit : ℕ
 limit = 16777216
 
 unfoldable pub tooLong : List ℕ → Bool

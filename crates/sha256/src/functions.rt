@@ -24,7 +24,7 @@ pub fn majority(x: u32, y: u32, z: u32) -> u32
     y ^ ((x ^ y) & (y ^ z))
 }
 
-// In this function and the next three, the rotation of y is the sum of the definition's first two.
+// In this function and the next three, the rotation of y is the xor of the definition's first two.
 pub fn big_sigma0(x: u32) -> u32
     ensures { λ r. ⌜ r ≡ Σ₀ x ⌝ }
 {

@@ -29,6 +29,9 @@ pub struct State {
     pub h: u32,
 }
 
+// The most bytes that a message may have (document 01, "Digest and signature").
+pub const MESSAGE_MAX: usize = 16777216;
+
 // FIPS 180-4, 4.2.2.
 const K: [u32; 64] = [
     0x428a_2f98,
@@ -402,7 +405,7 @@ pub fn digest(message: &[u8], out: &mut [u8; 32]) -> u32
     ensures number { λ r. ⌜ r ≡ digestNumber (now (message .entry)) ⌝ }
     ensures bytes { λ _. ⌜ now (out .exit) ≡ digestAfter (now (message .entry)) (now (out .entry)) ⌝ }
 {
-    if 16777216 < message.len() {
+    if MESSAGE_MAX < message.len() {
         return 16;
     }
     let whole = message.len() / 64 * 64;

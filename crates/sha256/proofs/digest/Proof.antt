@@ -16,22 +16,22 @@ use Rattle.sha256.proofs.digest.Statement.{statement}
 use Rattle.sha256.proofs.digest.Tie as tie
 
 -- a long message: number 16, and the buffer as it was
-long-number : (m : List ℕ) → 16777216 < length m → 16 ≡ digestNumber m
-unfolding digestNumber tooLong limit
-long-number m h = rw (lt-ltb 16777216 (length m) h)
+long-number : (m : List ℕ) → limit < length m → 16 ≡ digestNumber m
+unfolding digestNumber tooLong
+long-number m h = rw (lt-ltb limit (length m) h)
 
-long-bytes : (m before : List ℕ) → 16777216 < length m → before ≡ digestAfter m before
-unfolding digestAfter tooLong limit
-long-bytes m before h = rw (lt-ltb 16777216 (length m) h)
+long-bytes : (m before : List ℕ) → limit < length m → before ≡ digestAfter m before
+unfolding digestAfter tooLong
+long-bytes m before h = rw (lt-ltb limit (length m) h)
 
 returns : tie.Need-returns
 returns c = search (long-number, long-bytes)
 
 returns-2 : tie.Need-returns-2
-unfolding digestNumber digestAfter tooLong limit
+unfolding digestNumber digestAfter tooLong
 returns-2 c =
     let m = c .before .before .before .before .before .before .before .args .message .now in
-    let short = le-ltb 16777216 (length m) (c .before .before .before .before .before .if1 .left) in
+    let short = le-ltb limit (length m) (c .before .before .before .before .before .if1 .left) in
     let whole = c .before .before .before .absorb-all .result in
     let absorbed : whole ≡ hash initial m =
     c .before .before .before .absorb-all .ensures ∙ ap (λ (s : State). hash s m) (c .before .before .before .before .new .ensures) in
