@@ -1,0 +1,39 @@
+-- Fields that fit their bytes (document 01, "Board rules": no act signs a term or an index that does not fit its field), and
+-- the premise on SHA-256: no two different strings among some have one value.
+use mathlib.Core.Path.{_≡_}
+use mathlib.Core.List.{List, [], _∷_, List·Memᴰ}
+use Prim.Native.Nat.{ℕ, _^_, _<_}
+use lib.ListN.{length}
+use Rattle.sha256.specs.Sha256.{sha256}
+use Rattle.chain.specs.Log.{Form, Record}
+use Rattle.chain.specs.Claim.{Ballot, Claim, stamped, received, voted}
+
+pub record RecordFits (form : Form) (r : Record) : Type 0 where
+  pub term : r .term < 256 ^ form .termBytes
+  pub digest : length (r .digest) ≡ 32
+
+pub data LogFits (form : Form) : List Record → Type 0 where
+  empty : LogFits form []
+  more : {r : Record} {log : List Record} → RecordFits form r → LogFits form log → LogFits form (r ∷ log)
+
+-- a stamp's or a receipt's fields
+pub record PlaceFits (form : Form) (t : ℕ) (log : List Record) : Type 0 where
+  pub term : t < 256 ^ form .termBytes
+  pub index : length log < 256 ^ 4
+  pub records : LogFits form log
+
+pub record BallotFits (form : Form) (b : Ballot) : Type 0 where
+  pub candidate : b .candidate < 256 ^ 2
+  pub term : b .term < 256 ^ form .termBytes
+  pub lastTerm : b .lastTerm < 256 ^ form .termBytes
+  pub lastIndex : b .lastIndex < 256 ^ 4
+  pub lastPointer : length (b .lastPointer) ≡ 32
+
+abbrev pub ClaimFits : Form → Claim → Type 0
+ClaimFits form (stamped term log) = PlaceFits form term log
+ClaimFits form (received term log) = PlaceFits form term log
+ClaimFits form (voted b) = BallotFits form b
+
+-- different strings of the two collections have different SHA-256 values
+unfoldable pub Apart : List (List ℕ) → List (List ℕ) → Type 0
+Apart xs ys = (x y : List ℕ) → List·Memᴰ x xs → List·Memᴰ y ys → sha256 x ≡ sha256 y → x ≡ y

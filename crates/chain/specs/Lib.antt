@@ -1,0 +1,3 @@
+pub mod Log
+pub mod Claim
+pub mod Fits

@@ -1,0 +1,69 @@
+-- Worked examples of the board rules and of the charges: for each rule an act that is allowed and one that is not. They pin what
+-- the proofs do not need.
+-- Assumes nothing.
+use mathlib.Core.Path.{_≡_, refl}
+use mathlib.Core.Bool.{Bool, true, false}
+use mathlib.Core.List.{List, [], _∷_}
+use mathlib.Core.Option.{Option, some, none}
+use Prim.Native.Nat.{ℕ}
+use lib.ListN.{replicate}
+use Rattle.words.specs.BigEndian.{same}
+use Rattle.chain.specs.Log.{Form, version1, Record, termFrom, lastTerm}
+use Rattle.chain.specs.Claim.{Ballot}
+use Rattle.replica.specs.Ends.{rising, staler}
+use Rattle.replica.specs.Replica.{State, Act, raise, vote, run, add, stamp, receipt, fitsTerm, fitsIndex, fitsRecords, oneCandidate, noStamp, noStaler, all, rules, allowed}
+use Rattle.replica.specs.Charges.{twoVotes, twoStamps, staleVote, agree, sameRecord}
+
+-- a record of a term, with one byte of its payload digest
+of : ℕ → ℕ → Record
+of t x = record { term = t; digest = x ∷ replicate 31 0 }
+
+ballot : ℕ → ℕ → ℕ → ℕ → Ballot
+ballot candidate t u j = record { candidate = candidate; term = t; lastTerm = u; lastIndex = j; lastPointer = replicate 32 0 }
+
+-- three boards; term 4, a vote for board 2 in it, records of terms 3 and 4
+ready : Option ℕ → State
+ready mark = record { term = 4; vote = some (ballot 2 4 3 1); stamp = mark; log = of 3 0 ∷ of 4 0 ∷ [] }
+
+may : Option ℕ → Act → Bool
+may mark a = allowed (version1 (replicate 16 0)) 3 (ready mark) a
+
+-- its term may stay or rise, and does not fall; it fits four bytes
+raises : (may none (raise 4) ≡ true) × (may none (raise 3) ≡ false) × (may none (raise 4294967296) ≡ false)
+unfolding may ready of ballot allowed all rules fitsTerm fitsIndex fitsRecords oneCandidate noStamp noStaler lastTerm termFrom rising staler version1
+raises = (refl, refl, refl)
+
+-- votes: term, candidate 1 to 3, one candidate a term, a log no staler (term first), fields that fit
+votes : (may none (vote (ballot 2 4 4 2)) ≡ true) × (may none (vote (ballot 3 5 4 2)) ≡ true) × (may none (vote (ballot 2 3 4 2)) ≡ false)
+    × (may none (vote (ballot 0 5 4 2)) ≡ false) × (may none (vote (ballot 4 5 4 2)) ≡ false) × (may none (vote (ballot 1 4 4 2)) ≡ false)
+    × (may none (vote (ballot 2 5 4 1)) ≡ false) × (may none (vote (ballot 2 5 3 9)) ≡ false) × (may none (vote (ballot 2 5 5 1)) ≡ true)
+    × (may none (vote (ballot 2 5 4 4294967296)) ≡ false)
+unfolding may ready of ballot allowed all rules fitsTerm fitsIndex fitsRecords oneCandidate noStamp noStaler lastTerm termFrom rising staler version1
+votes = (refl, refl, refl, refl, refl, refl, refl, refl, refl, refl)
+
+-- runs: some records kept, one or more new, terms in order and above 0, the last of its own term, no staler, no stamp in this term
+runs : (may none (run 1 (of 4 1 ∷ [])) ≡ true) × (may none (run 0 (of 4 1 ∷ of 4 2 ∷ [])) ≡ true) × (may none (run 3 (of 4 1 ∷ [])) ≡ false)
+    × (may none (run 2 []) ≡ false) × (may none (run 0 (of 0 1 ∷ of 4 2 ∷ [])) ≡ false) × (may none (run 2 (of 3 1 ∷ of 4 2 ∷ [])) ≡ false)
+    × (may none (run 1 (of 3 1 ∷ of 3 2 ∷ [])) ≡ false) × (may none (run 0 (of 4 1 ∷ [])) ≡ false) × (may (some 4) (run 1 (of 4 1 ∷ [])) ≡ false)
+    × (may (some 3) (run 1 (of 4 1 ∷ [])) ≡ true)
+unfolding may ready of ballot allowed all rules fitsTerm fitsIndex fitsRecords oneCandidate noStamp noStaler lastTerm termFrom rising staler version1
+runs = (refl, refl, refl, refl, refl, refl, refl, refl, refl, refl)
+
+-- records added are of its own term; stamps are on its last record, of its own term; receipts on records of its own term
+others : (may none (add (of 4 7)) ≡ true) × (may none (add (of 3 7)) ≡ false) × (may none (add (of 5 7)) ≡ false) × (may none stamp ≡ true)
+    × (may none (receipt 2) ≡ true) × (may none (receipt 1) ≡ false) × (may none (receipt 0) ≡ false) × (may none (receipt 3) ≡ false)
+unfolding may ready of ballot allowed all rules fitsTerm fitsIndex fitsRecords oneCandidate noStamp noStaler lastTerm termFrom rising staler version1
+others = (refl, refl, refl, refl, refl, refl, refl, refl)
+
+-- document 01, worked figures of rule 3: after a receipt (term 3, index 7), a vote in term 5
+stale : (staleVote 3 (replicate 7 (of 3 0)) (ballot 1 5 3 6) ≡ true) × (staleVote 3 (replicate 7 (of 3 0)) (ballot 1 5 3 7) ≡ false)
+    × (staleVote 3 (replicate 7 (of 3 0)) (ballot 1 5 4 1) ≡ false)
+unfolding of ballot staleVote staler
+stale = (refl, refl, refl)
+
+-- not charged: a log that is a beginning of the other, stamps of two terms, votes of one term for one candidate; charged: the rest
+charges : (twoStamps 1 (of 1 0 ∷ []) 1 (of 1 0 ∷ of 1 1 ∷ []) ≡ false) × (twoStamps 1 (of 1 0 ∷ []) 2 (of 2 0 ∷ []) ≡ false)
+    × (twoStamps 1 (of 1 0 ∷ []) 1 (of 1 1 ∷ of 1 1 ∷ []) ≡ true) × (twoVotes (ballot 1 4 3 1) (ballot 1 4 4 2) ≡ false)
+    × (twoVotes (ballot 1 4 3 1) (ballot 2 5 3 1) ≡ false) × (twoVotes (ballot 1 4 3 1) (ballot 2 4 3 1) ≡ true)
+unfolding of ballot twoStamps agree sameRecord same twoVotes
+charges = (refl, refl, refl, refl, refl, refl)

@@ -1,0 +1,3 @@
+mod Examples
+mod Order
+pub mod Honest

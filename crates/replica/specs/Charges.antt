@@ -1,0 +1,62 @@
+-- The four rules (document 01, "The report"): what one claim from the first and one from the second submission break.
+use mathlib.Core.Bool.{Bool, true, false, not, cond}
+use mathlib.Core.Path.{_≡_}
+use mathlib.Core.List.{List, [], _∷_, List·Memᴰ}
+use Prim.Native.Nat.{ℕ}
+use lib.Dec.{ltb, eqb}
+use lib.ListN.{length}
+use Rattle.words.specs.BigEndian.{same}
+use Rattle.chain.specs.Log.{Form, Record}
+use Rattle.replica.specs.Ends.{staler}
+use Rattle.replica.specs.Replica.{Act, first, keeps, signed}
+use Rattle.chain.specs.Claim.{Ballot, Claim, stamped, received, voted}
+
+pub record Charge : Type 0 where
+  pub rule : ℕ
+  pub term : ℕ
+
+unfoldable pub charge : Bool → ℕ → ℕ → List Charge
+charge true rule term = record { rule = rule; term = term } ∷ []
+charge false rule term = []
+
+unfoldable pub sameRecord : Record → Record → Bool
+sameRecord r s = cond (eqb (r .term) (s .term)) (same (r .digest) (s .digest)) false
+
+-- the two logs do not differ in records 1 to the lower of their lengths
+unfoldable pub agree : List Record → List Record → Bool
+agree [] m = true
+agree (r ∷ l) [] = true
+agree (r ∷ l) (s ∷ m) = cond (sameRecord r s) (agree l m) false
+
+-- votes of one term for different candidates
+unfoldable pub twoVotes : Ballot → Ballot → Bool
+twoVotes a b = cond (eqb (a .term) (b .term)) (not (eqb (a .candidate) (b .candidate))) false
+
+-- stamps of one term on logs that differ within both
+unfoldable pub twoStamps : ℕ → List Record → ℕ → List Record → Bool
+twoStamps t l u m = cond (eqb t u) (not (agree l m)) false
+
+-- after a receipt for record (t, c), a vote of a higher term for a staler log
+unfoldable pub staleVote : ℕ → List Record → Ballot → Bool
+staleVote t l b = cond (ltb t (b .term)) (staler (b .lastTerm) (b .lastIndex) t (length l)) false
+
+-- the first submission's claim first
+unfoldable pub clash : Claim → Claim → List Charge
+clash (voted a) (voted b) = charge (twoVotes a b) 1 (a .term)
+clash (stamped t l) (stamped u m) = charge (twoStamps t l u m) 2 t
+clash (received t l) (voted b) = charge (staleVote t l b) 3 (b .term)
+clash (voted b) (received t l) = charge (staleVote t l b) 4 (b .term)
+clash (voted a) (stamped u m) = []
+clash (stamped t l) (voted b) = []
+clash (stamped t l) (received u m) = []
+clash (received t l) (stamped u m) = []
+clash (received t l) (received u m) = []
+
+-- ---- the claim
+
+-- a replica that keeps the board rules from the first state on signs no two claims that break a rule, whichever submission has
+-- the one and which the other: one claim over the whole list of acts
+unfoldable pub NeverCharged : Form → ℕ → Type 0
+NeverCharged form n =
+    (acts : List Act) → keeps form n first acts ≡ true
+    → (c d : Claim) → List·Memᴰ c (signed first acts) → List·Memᴰ d (signed first acts) → clash c d ≡ []

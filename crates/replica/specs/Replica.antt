@@ -1,0 +1,136 @@
+-- The board rules (document 01, "Board rules"): state, acts, what each act may do, leaves behind and signs. A replica is
+-- document 01's board.
+use mathlib.Core.Bool.{Bool, true, false, not, cond}
+use mathlib.Core.List.{List, [], _∷_, _++_}
+use mathlib.Core.Option.{Option, some, none}
+use Prim.Native.Nat.{ℕ, _+_, _^_}
+use lib.Dec.{leb, ltb, eqb}
+use lib.ListN.{length, take}
+use Rattle.chain.specs.Log.{Form, Record, lastTerm}
+use Rattle.replica.specs.Ends.{rising, staler}
+use Rattle.chain.specs.Claim.{Ballot, Claim, stamped, received, voted}
+
+pub record State : Type 0 where
+  pub term : ℕ
+  pub vote : Option Ballot
+  pub stamp : Option ℕ
+  pub log : List Record
+
+-- at first: term 0, no vote, no stamp, an empty log
+unfoldable pub first : State
+first = record { term = 0; vote = none; stamp = none; log = [] }
+
+pub data Act : Type 0 where
+  raise : ℕ → Act
+  vote : Ballot → Act
+  run : ℕ → List Record → Act
+  add : Record → Act
+  stamp : Act
+  receipt : ℕ → Act
+  decline restart : Act
+
+-- ---- fields that fit: no act brings into the state, or signs, a term or an index that does not fit its field
+
+unfoldable pub fitsTerm : Form → ℕ → Bool
+fitsTerm form t = ltb t (256 ^ form .termBytes)
+
+unfoldable pub fitsIndex : ℕ → Bool
+fitsIndex i = ltb i (256 ^ 4)
+
+unfoldable pub fitsRecords : Form → List Record → Bool
+fitsRecords form [] = true
+fitsRecords form (r ∷ log) = cond (fitsTerm form (r .term)) (cond (eqb (length (r .digest)) 32) (fitsRecords form log) false) false
+
+-- ---- the rules, one to a line
+
+-- the last vote is of another term, or for this candidate
+unfoldable pub oneCandidate : Option Ballot → Ballot → Bool
+oneCandidate none b = true
+oneCandidate (some a) b = cond (eqb (a .term) (b .term)) (eqb (a .candidate) (b .candidate)) true
+
+-- no stamp in this term
+unfoldable pub noStamp : Option ℕ → ℕ → Bool
+noStamp none t = true
+noStamp (some u) t = not (eqb u t)
+
+-- the log's end (u, j) is no staler than the log's before
+unfoldable pub noStaler : List Record → ℕ → ℕ → Bool
+noStaler log u j = not (staler u j (lastTerm log) (length log))
+
+unfoldable pub all : List Bool → Bool
+all [] = true
+all (b ∷ bs) = cond b (all bs) false
+
+module _ (form : Form) (n : ℕ) where
+  unfoldable pub rules : State → Act → List Bool
+  rules s (raise t) =
+      leb (s .term) t ∷  -- its term never falls
+      fitsTerm form t ∷ []
+  rules s (vote b) =
+      leb (s .term) (b .term) ∷  -- t is not below its own term
+      leb 1 (b .candidate) ∷ leb (b .candidate) n ∷  -- a candidate 1 to n
+      oneCandidate (s .vote) b ∷  -- never two in one term
+      noStaler (s .log) (b .lastTerm) (b .lastIndex) ∷  -- no staler than its own log's
+      fitsTerm form (b .term) ∷ fitsTerm form (b .lastTerm) ∷ fitsIndex (b .lastIndex) ∷
+      eqb (length (b .lastPointer)) 32 ∷ []
+  rules s (run k records) =
+      let log = take k (s .log) ++ records in
+      leb k (length (s .log)) ∷  -- keeps its first k records
+      ltb 0 (length records) ∷  -- one or more records
+      rising 1 log ∷  -- all terms above 0, none falls
+      eqb (lastTerm log) (s .term) ∷  -- the last record has its own term
+      noStaler (s .log) (lastTerm log) (length log) ∷  -- the log's end is no staler than before
+      noStamp (s .stamp) (s .term) ∷  -- it has not stamped in this term
+      fitsRecords form records ∷ fitsIndex (length log) ∷ []
+  rules s (add r) =
+      eqb (r .term) (s .term) ∷  -- a record of its own term
+      ltb 0 (r .term) ∷  -- above 0
+      fitsRecords form (r ∷ []) ∷ fitsIndex (length (s .log) + 1) ∷ []
+  rules s stamp =
+      ltb 0 (length (s .log)) ∷  -- the last record of its own log
+      eqb (lastTerm (s .log)) (s .term) ∷ []  -- which has its own term
+  rules s (receipt i) =
+      ltb 0 i ∷ leb i (length (s .log)) ∷  -- a record in its own log
+      eqb (lastTerm (take i (s .log))) (s .term) ∷ []  -- which has its own term
+  rules s decline = []
+  rules s restart = []
+
+  unfoldable pub allowed : State → Act → Bool
+  allowed s a = all (rules s a)
+
+-- the state after an act
+unfoldable pub after : State → Act → State
+after s (raise t) = record { term = t; vote = s .vote; stamp = s .stamp; log = s .log }
+after s (vote b) = record { term = b .term; vote = some b; stamp = s .stamp; log = s .log }
+after s (run k records) = record { term = s .term; vote = s .vote; stamp = s .stamp; log = take k (s .log) ++ records }
+after s (add r) = record { term = s .term; vote = s .vote; stamp = s .stamp; log = s .log ++ (r ∷ []) }
+after s stamp = record { term = s .term; vote = s .vote; stamp = some (s .term); log = s .log }
+after s (receipt i) = s
+after s decline = s
+after s restart = s
+
+-- what an act signs
+unfoldable pub signs : State → Act → List Claim
+signs s (raise t) = []
+signs s (vote b) = voted b ∷ []
+signs s (run k records) = []
+signs s (add r) = []
+signs s stamp = stamped (s .term) (s .log) ∷ []
+signs s (receipt i) = received (s .term) (take i (s .log)) ∷ []
+signs s decline = []
+signs s restart = []
+
+-- ---- over a list of acts, each on the state that the one before left
+
+unfoldable pub keeps : Form → ℕ → State → List Act → Bool
+keeps form n s [] = true
+keeps form n s (a ∷ acts) = cond (allowed form n s a) (keeps form n (after s a) acts) false
+
+unfoldable pub signed : State → List Act → List Claim
+signed s [] = []
+signed s (a ∷ acts) = signs s a ++ signed (after s a) acts
+
+-- the logs it has held: the one at first, and the one after each act
+unfoldable pub held : State → List Act → List (List Record)
+held s [] = s .log ∷ []
+held s (a ∷ acts) = s .log ∷ held (after s a) acts
