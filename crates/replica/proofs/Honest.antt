@@ -119,9 +119,6 @@ no-charge : (b : Bool) (rule term : ℕ) → b ≡ false → charge b rule term 
 unfolding charge
 no-charge b rule term e = rw e
 
-same-self : (l : List ℕ) → same l l ≡ true
-same-self l = true-same l
-
 agree-begins : (l rest : List Record) → (agree l (l ++ rest) ≡ true) × (agree (l ++ rest) l ≡ true)
 unfolding agree sameRecord
 agree-begins [] rest = (refl, agree-nil rest)

@@ -129,8 +129,3 @@ keeps form n s (a ∷ acts) = cond (allowed form n s a) (keeps form n (after s a
 unfoldable pub signed : State → List Act → List Claim
 signed s [] = []
 signed s (a ∷ acts) = signs s a ++ signed (after s a) acts
-
--- the logs it has held: the one at first, and the one after each act
-unfoldable pub held : State → List Act → List (List Record)
-held s [] = s .log ∷ []
-held s (a ∷ acts) = s .log ∷ held (after s a) acts

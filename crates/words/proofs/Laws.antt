@@ -87,13 +87,6 @@ pub numberAt-drop : (w : ℕ) (xs : List ℕ) (n at : ℕ) → numberAt w (drop 
 unfolding numberAt
 numberAt-drop w xs n at = rw drop-drop
 
--- a number at a place of the first of two lists
-pub numberAt-front : (w : ℕ) (xs ys : List ℕ) (at : ℕ) → at + w ≤ length xs → numberAt w (xs ++ ys) at ≡ numberAt w xs at
-unfolding numberAt
-numberAt-front w xs ys at h =
-    let room : w ≤ length (drop at xs) = simp length-drop (omega arith) in
-    rw (drop-append-le at xs ys (omega arith), take-append-le w (drop at xs) ys room)
-
 -- ---- more bytes than a number needs
 
 pub be-pad : (k w n : ℕ) → n < 256 ^ w → be (k + w) n ≡ replicate k 0 ++ be w n
