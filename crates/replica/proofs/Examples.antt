@@ -8,10 +8,11 @@ use mathlib.Core.Option.{Option, some, none}
 use Prim.Native.Nat.{ℕ}
 use lib.ListN.{replicate}
 use Rattle.words.specs.BigEndian.{same}
+use Rattle.refusal.specs.Checks.{all}
 use Rattle.chain.specs.Log.{Form, version1, Record, termFrom, lastTerm}
 use Rattle.chain.specs.Claim.{Ballot}
 use Rattle.replica.specs.Ends.{rising, staler}
-use Rattle.replica.specs.Replica.{State, Act, raise, vote, run, add, stamp, receipt, fitsTerm, fitsIndex, fitsRecords, oneCandidate, noStamp, noStaler, all, rules, allowed}
+use Rattle.replica.specs.Replica.{State, Act, raise, vote, run, add, stamp, receipt, fitsTerm, fitsIndex, fitsRecords, oneCandidate, noStamp, noStaler, rules, allowed}
 use Rattle.replica.specs.Charges.{twoVotes, twoStamps, staleVote, agree, sameRecord}
 
 -- a record of a term, with one byte of its payload digest

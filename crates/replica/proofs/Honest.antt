@@ -15,11 +15,12 @@ use lib.ListN.{length, take, length-append}
 use lib.Seq.{length-take-le}
 use Rattle.words.specs.BigEndian.{same}
 use Rattle.words.proofs.Same.{true-same}
+use Rattle.refusal.proofs.Laws.{look, cond-true, not-true, all-cons}
 use Rattle.chain.specs.Log.{Form, Record, termFrom, lastTerm}
 use Rattle.replica.specs.Ends.{rising, staler}
 use Rattle.chain.specs.Claim.{Ballot, Claim, stamped, received, voted}
-use Rattle.replica.specs.Replica.{State, first, keeps, signed, Act, raise, vote, run, add, stamp, receipt, decline, restart, oneCandidate, noStamp, noStaler, all, rules, allowed, after, signs}
-use Rattle.replica.proofs.Order.{look, cond-true, not-true, Fresh, fresh, not-staler, fresh-trans, last-snoc, take-last-le, rising-snoc}
+use Rattle.replica.specs.Replica.{State, first, keeps, signed, Act, raise, vote, run, add, stamp, receipt, decline, restart, oneCandidate, noStamp, noStaler, rules, allowed, after, signs}
+use Rattle.replica.proofs.Order.{Fresh, fresh, not-staler, fresh-trans, last-snoc, take-last-le, rising-snoc}
 use Rattle.replica.specs.Charges.{NeverCharged, clash, charge, twoVotes, twoStamps, staleVote, agree, sameRecord}
 
 -- ---- what a state keeps
@@ -43,10 +44,6 @@ record Sound (s : State) : Type 0 where
   rises : rising 1 (s .log) ≡ true
 
 -- ---- what an allowed act says
-
-all-cons : (b : Bool) (bs : List Bool) → all (b ∷ bs) ≡ true → (b ≡ true) × (all bs ≡ true)
-unfolding all
-all-cons b bs e = cond-true b (all bs) e
 
 module _ (form : Form) (n : ℕ) (s : State) where
   raise-fact : (t : ℕ) → allowed form n s (raise t) ≡ true → s .term ≤ t

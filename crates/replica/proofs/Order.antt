@@ -10,22 +10,9 @@ use native.Mathlib.Omega.{arith}
 use borrow.Author.Tests.{ltb-false, eqb-true, eqb-false, leb-true, eq-eqb, ne-eqb, le-ltb, le-leb}
 use lib.Dec.{eqb, ltb, leb}
 use lib.ListN.{length, take}
+use Rattle.refusal.proofs.Laws.{look, cond-true}
 use Rattle.chain.specs.Log.{Record, termFrom, lastTerm}
 use Rattle.replica.specs.Ends.{rising, staler}
-
--- ---- tests
-
-pub look : (b : Bool) → (b ≡ true) ⊎ (b ≡ false)
-look true = inl refl
-look false = inr refl
-
-pub cond-true : (b c : Bool) → cond b c false ≡ true → (b ≡ true) × (c ≡ true)
-cond-true true c e = (refl, e)
-cond-true false c e = absurd (false≢true e)
-
-pub not-true : (b : Bool) → not b ≡ true → b ≡ false
-not-true true e = absurd (false≢true e)
-not-true false e = refl
 
 -- ---- ends
 

@@ -6,6 +6,7 @@ use mathlib.Core.Option.{Option, some, none}
 use Prim.Native.Nat.{ℕ, _+_, _^_}
 use lib.Dec.{leb, ltb, eqb}
 use lib.ListN.{length, take}
+use Rattle.refusal.specs.Checks.{all}
 use Rattle.chain.specs.Log.{Form, Record, lastTerm}
 use Rattle.replica.specs.Ends.{rising, staler}
 use Rattle.chain.specs.Claim.{Ballot, Claim, stamped, received, voted}
@@ -56,10 +57,6 @@ noStamp (some u) t = not (eqb u t)
 -- the log's end (u, j) is no staler than the log's before
 unfoldable pub noStaler : List Record → ℕ → ℕ → Bool
 noStaler log u j = not (staler u j (lastTerm log) (length log))
-
-unfoldable pub all : List Bool → Bool
-all [] = true
-all (b ∷ bs) = cond b (all bs) false
 
 module _ (form : Form) (n : ℕ) where
   unfoldable pub rules : State → Act → List Bool
@@ -129,3 +126,8 @@ keeps form n s (a ∷ acts) = cond (allowed form n s a) (keeps form n (after s a
 unfoldable pub signed : State → List Act → List Claim
 signed s [] = []
 signed s (a ∷ acts) = signs s a ++ signed (after s a) acts
+
+-- the logs held: the first state's, and the log after each act
+unfoldable pub held : State → List Act → List (List Record)
+held s [] = s .log ∷ []
+held s (a ∷ acts) = s .log ∷ held (after s a) acts

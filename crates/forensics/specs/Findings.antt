@@ -1,0 +1,76 @@
+-- What two submissions show (document 01, "The report"): the fork index, and for each board the charge that its row has.
+use mathlib.Core.Bool.{Bool, true, false, cond}
+use mathlib.Core.List.{List, [], _∷_, flatMap}
+use mathlib.Core.Option.{Option, some, none}
+use Prim.Native.Nat.{ℕ, zero, suc, _+_, _*_}
+use lib.Dec.{eqb}
+use Rattle.chain.specs.Log.{Record}
+use Rattle.chain.specs.Claim.{Claim}
+use Rattle.replica.specs.Ends.{staler}
+use Rattle.replica.specs.Charges.{Charge, clash, sameRecord}
+use Rattle.submission.specs.View.{View, committed, Slot, slots}
+
+-- ---- the fork
+
+-- the lowest index, from i on, whose records differ; 0 if none
+unfoldable pub differAt : ℕ → List Record → List Record → ℕ
+differAt i [] m = 0
+differAt i (r ∷ l) [] = 0
+differAt i (r ∷ l) (s ∷ m) = cond (sameRecord r s) (differAt (suc i) l m) i
+
+-- the lowest index, committed in both, whose records differ
+unfoldable pub fork : View → View → ℕ
+fork a b = differAt 1 (committed a) (committed b)
+
+-- ---- the charges
+
+-- the claims that board k's signatures stand on
+unfoldable pub says : ℕ → List Slot → List Claim
+says k [] = []
+says k (x ∷ xs) = cond (eqb (x .board) k) (x .claim ∷ says k xs) (says k xs)
+
+-- the rules that one of board k's statements from the first and one from the second submission break
+unfoldable pub charges : ℕ → List Slot → List Slot → List Charge
+charges k xs ys = flatMap (λ c. flatMap (clash c) (says k ys)) (says k xs)
+
+-- ---- the rows
+
+-- the lowest rule broken and, for that rule, the lowest term
+unfoldable pub sooner : Charge → Charge → Bool
+sooner c d = staler (c .rule) (c .term) (d .rule) (d .term)
+
+unfoldable pub lower : Charge → Option Charge → Charge
+lower c none = c
+lower c (some d) = cond (sooner d c) d c
+
+unfoldable pub lowest : List Charge → Option Charge
+lowest [] = none
+lowest (c ∷ cs) = some (lower c (lowest cs))
+
+-- the rows of so many boards from board k on
+unfoldable pub rowsFrom : ℕ → ℕ → List Slot → List Slot → List (Option Charge)
+rowsFrom zero k xs ys = []
+rowsFrom (suc count) k xs ys = lowest (charges k xs ys) ∷ rowsFrom count (suc k) xs ys
+
+-- a board is named if its row has a charge: bit k - 1 for board k
+unfoldable pub bit : Option Charge → ℕ
+bit none = 0
+bit (some c) = 1
+
+unfoldable pub maskOf : List (Option Charge) → ℕ
+maskOf [] = 0
+maskOf (row ∷ rows) = bit row + 2 * maskOf rows
+
+-- ---- both
+
+pub record Findings : Type 0 where
+  pub fork : ℕ
+  pub rows : List (Option Charge)
+
+-- nine rows, for boards 1 to 9
+abbrev pub rowCount : ℕ
+rowCount = 9
+
+-- S is the bytes of a signature
+unfoldable pub findings : ℕ → View → View → Findings
+findings S a b = record { fork = fork a b; rows = rowsFrom rowCount 1 (slots S a) (slots S b) }

@@ -1,0 +1,43 @@
+-- What tests taken together say of each, and what it means that no check is refused.
+-- Assumes nothing.
+use mathlib.Core.Path.{_≡_, refl, sym, _∙_}
+use mathlib.Core.Bool.{Bool, true, false, not, cond, false≢true}
+use mathlib.Core.List.{List, [], _∷_, List·Memᴰ, List·Memᴰ·not-nil, List·Memᴰ·cases-cons}
+use mathlib.Core.Logic.{_⊎_, inl, inr, ⊎-elim}
+use Prim.Native.Nat.{ℕ, _<_}
+use native.Mathlib.Omega.{arith}
+use Rattle.refusal.specs.Checks.{all, every, Check, check, refusal}
+
+-- ---- one test
+
+pub look : (b : Bool) → (b ≡ true) ⊎ (b ≡ false)
+look true = inl refl
+look false = inr refl
+
+pub cond-true : (b c : Bool) → cond b c false ≡ true → (b ≡ true) × (c ≡ true)
+cond-true true c e = (refl, e)
+cond-true false c e = absurd (false≢true e)
+
+pub not-true : (b : Bool) → not b ≡ true → b ≡ false
+not-true true e = absurd (false≢true e)
+not-true false e = refl
+
+-- ---- all of them
+
+pub all-cons : (b : Bool) (bs : List Bool) → all (b ∷ bs) ≡ true → (b ≡ true) × (all bs ≡ true)
+unfolding all
+all-cons b bs e = cond-true b (all bs) e
+
+pub every-mem : {A : Type 0} (test : A → Bool) (xs : List A) → every test xs ≡ true → (x : A) → List·Memᴰ x xs → test x ≡ true
+unfolding every
+every-mem test [] e x m = absurd (List·Memᴰ·not-nil m)
+every-mem test (y ∷ ys) e x m =
+    let p = cond-true (test y) (every test ys) e in
+    ⊎-elim (λ h. rw h (p .0)) (λ h. every-mem test ys (p .1) x h) (List·Memᴰ·cases-cons m)
+
+-- ---- no check refused
+
+pub accepted : (k : ℕ) (met : Bool) (cs : List Check) → 0 < k → refusal (check k met ∷ cs) ≡ 0 → (met ≡ true) × (refusal cs ≡ 0)
+unfolding refusal check
+accepted k true cs h e = (refl, e)
+accepted k false cs h e = absurd (omega (arith, h, e))

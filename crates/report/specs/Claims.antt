@@ -1,0 +1,56 @@
+-- Demand 3, on the number and the bytes of a report: naming and fairness.
+use mathlib.Core.Path.{_≡_}
+use mathlib.Core.Bool.{true, false}
+use mathlib.Core.List.{List, [], _∷_, _++_, map, flatMap, List·Memᴰ}
+use mathlib.Core.Option.{Option, some, none}
+use Prim.Native.Nat.{ℕ, _≤_, _<_}
+use lib.ListN.{getElem?}
+use Rattle.lms.specs.Check.{good}
+use Rattle.roster.specs.Roster.{boards, keyOf}
+use Rattle.roster.specs.Masks.{signer}
+use Rattle.chain.specs.Log.{Record, chainStrings}
+use Rattle.chain.specs.Claim.{say}
+use Rattle.chain.specs.Fits.{Apart}
+use Rattle.replica.specs.Replica.{Act, first, keeps, signed, held}
+use Rattle.submission.specs.View.{Slot, committed}
+use Rattle.submission.specs.Validate.{formOf, viewOf, slotsOf}
+use Rattle.report.specs.Report.{namedIn}
+
+-- ---- naming
+
+-- at some index the two have records, and those differ
+pub record Differ (l m : List Record) : Type 0 where
+  pub index : ℕ
+  pub one : Record
+  pub other : Record
+  pub in-one : getElem? l index ≡ some one
+  pub in-other : getElem? m index ≡ some other
+  pub differ : one ≡ other → ⊥
+
+module _ (roster s₁ s₂ : List ℕ) (number : ℕ) (report : List ℕ) where
+  -- any two accepted submissions that differ at an index committed in both get at least one board named
+  unfoldable pub Naming : Type 0
+  Naming = number ≡ 0 → Differ (committed (viewOf roster s₁)) (committed (viewOf roster s₂)) → namedIn report ≡ 0 → ⊥
+
+  -- ---- fairness
+
+  -- each signature in the two submissions that is good under the board's key stands on a statement signed in the list
+  unfoldable pub OwnSignatures : ℕ → List Act → Type 0
+  OwnSignatures k acts =
+      (x : Slot) → List·Memᴰ x (slotsOf roster s₁ ++ slotsOf roster s₂)
+      → good (keyOf roster k) (say (formOf roster) (x .claim)) (x .signature) ≡ true
+      → List·Memᴰ (say (formOf roster) (x .claim)) (map (say (formOf roster)) (signed first acts))
+
+  -- the chain strings of every log held and of the two submissions
+  unfoldable pub strings : List Act → List (List ℕ)
+  strings acts =
+      flatMap (chainStrings (formOf roster)) (held first acts) ++ chainStrings (formOf roster) (viewOf roster s₁ .log)
+      ++ chainStrings (formOf roster) (viewOf roster s₂ .log)
+
+  -- a board whose acts all kept the board rules is never named, whatever others did or sent: one claim over its whole list of acts. With
+  -- number 1 there is no report
+  unfoldable pub Fairness : Type 0
+  Fairness =
+      (number ≡ 1 → ⊥) → (k : ℕ) → 0 < k → k ≤ boards roster
+      → (acts : List Act) → keeps (formOf roster) (boards roster) first acts ≡ true
+      → OwnSignatures k acts → Apart (strings acts) (strings acts) → signer (namedIn report) k ≡ false

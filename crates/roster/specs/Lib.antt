@@ -1,0 +1,2 @@
+pub mod Roster
+pub mod Masks

@@ -1,0 +1,4 @@
+pub mod Trailer
+pub mod View
+pub mod Reading
+pub mod Validate
