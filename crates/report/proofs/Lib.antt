@@ -1,0 +1,3 @@
+mod Bytes
+mod Examples
+pub mod Figures

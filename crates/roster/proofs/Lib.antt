@@ -1,1 +1,2 @@
 pub mod Quorums
+mod Examples

@@ -1,0 +1,109 @@
+-- Worked examples: the two forks of document 01, "Bench figures", its "Faults a bench would miss", and which charge a row takes. Signatures do not
+-- matter here and are left empty.
+-- Assumes nothing.
+use mathlib.Core.Path.{_≡_, refl}
+use mathlib.Core.Bool.{Bool, true, false}
+use mathlib.Core.List.{List, [], _∷_, _++_, flatMap, map}
+use mathlib.Core.Option.{Option, some, none}
+use Prim.Native.Nat.{ℕ}
+use lib.ListN.{length, take, drop, replicate}
+use Rattle.words.specs.BigEndian.{same}
+use Rattle.roster.specs.Masks.{boardsFrom, boardsOf}
+use Rattle.chain.specs.Log.{Record, termFrom, lastTerm}
+use Rattle.chain.specs.Claim.{Ballot}
+use Rattle.replica.specs.Ends.{staler}
+use Rattle.replica.specs.Charges.{Charge, charge, clash, twoVotes, twoStamps, staleVote, agree, sameRecord}
+use Rattle.submission.specs.View.{run, runsFrom, runs, Certificate, Commit, View, leadsOf, leads, committedBy, committed, slot, certified, votesOf, stampOf, receiptsOf, slots}
+use Rattle.forensics.specs.Findings.{differAt, fork, says, charges, sooner, lower, lowest, rowsFrom, bit, maskOf, Findings, findings}
+
+-- a record of a term, with one byte of its payload digest
+of : ℕ → ℕ → Record
+of t x = record { term = t; digest = x ∷ replicate 31 0 }
+
+-- a leader certificate: candidate, term, last term, last index, signers
+elected : ℕ → ℕ → ℕ → ℕ → ℕ → Certificate
+elected candidate t u j mask =
+    record { ballot = record { candidate = candidate; term = t; lastTerm = u; lastIndex = j; lastPointer = [] }; signers = mask; signatures = [] }
+
+-- a log with its leaders, and the commit's index and signers
+with-commit : List Record → List Certificate → ℕ → ℕ → View
+with-commit log leaders index mask =
+    record { log = log; leaders = leaders; stamps = map (λ (c : Certificate). []) leaders; commit = some (record { index = index; signers = mask; signatures = [] }) }
+
+without : List Record → List Certificate → View
+without log leaders = record { log = log; leaders = leaders; stamps = map (λ (c : Certificate). []) leaders; commit = none }
+
+row : ℕ → ℕ → Option Charge
+row rule term = some (record { rule = rule; term = term })
+
+-- what is found: the fork, and the rows of boards 1 to 3; boards 4 to 9 have none
+found : ℕ → Option Charge → Option Charge → Option Charge → Findings
+found i x y z = record { fork = i; rows = x ∷ y ∷ z ∷ replicate 6 none }
+
+-- ---- document 01's forks, with three boards
+
+-- one leader, two records of term 1: `fork 1`, `board 1 rule 2 term 1`
+one-leader : findings 0 (with-commit (of 1 1 ∷ []) (elected 1 1 0 0 0b011 ∷ []) 1 0b011) (with-commit (of 1 2 ∷ []) (elected 1 1 0 0 0b011 ∷ []) 1 0b101)
+    ≡ found 1 (row 2 1) none none
+unfolding findings found row with-commit elected of fork committed committedBy differAt slots leads leadsOf runs runsFrom run votesOf stampOf receiptsOf certified slot boardsOf
+    boardsFrom lastTerm termFrom flatMap rowsFrom charges says clash charge twoVotes twoStamps staleVote staler agree sameRecord same lowest lower sooner
+one-leader = refl
+
+first-log : View
+first-log = with-commit (of 1 1 ∷ []) (elected 1 1 0 0 0b011 ∷ []) 1 0b011
+
+second-log : View
+second-log = with-commit (of 2 2 ∷ []) (elected 3 2 0 0 0b110 ∷ []) 1 0b110
+
+-- a leader elected on an empty log after a commit: `fork 1`, `board 2 rule 3 term 2`; exchanged, rule 4. Of the two quorums only board 2
+-- signed both certificates, and nobody else is charged
+stale-leader : (findings 0 first-log second-log ≡ found 1 none (row 3 2) none) × (findings 0 second-log first-log ≡ found 1 none (row 4 2) none)
+unfolding findings found row first-log second-log with-commit elected of fork committed committedBy differAt slots leads leadsOf runs runsFrom run votesOf stampOf receiptsOf certified
+    slot boardsOf boardsFrom lastTerm termFrom flatMap rowsFrom charges says clash charge twoVotes twoStamps staleVote staler agree sameRecord same lowest lower sooner
+stale-leader = (refl, refl)
+
+-- ---- faults that a bench would miss: nobody is charged
+
+-- a log that is a beginning of the other, so that the last stamps' pointers differ
+beginning : findings 0 (with-commit (of 1 1 ∷ []) (elected 1 1 0 0 0b011 ∷ []) 1 0b011) (with-commit (of 1 1 ∷ of 1 2 ∷ []) (elected 1 1 0 0 0b011 ∷ []) 2 0b011)
+    ≡ found 0 none none none
+unfolding findings found with-commit elected of fork committed committedBy differAt slots leads leadsOf runs runsFrom run votesOf stampOf receiptsOf certified slot boardsOf
+    boardsFrom lastTerm termFrom flatMap rowsFrom charges says clash charge twoVotes twoStamps staleVote staler agree sameRecord same lowest lower sooner
+beginning = refl
+
+-- term before index: board 2 gave a receipt for (1, 2) and voted on (2, 1), whose index is lower and whose term is higher, and is not charged. Board
+-- 1 voted on the empty log after its receipt, and is
+term-first : findings 0 (with-commit (of 1 1 ∷ of 1 2 ∷ []) (elected 1 1 0 0 0b011 ∷ []) 2 0b011) (without (of 2 1 ∷ of 3 1 ∷ []) (elected 3 2 0 0 0b101 ∷ elected 3 3 2 1 0b110 ∷ []))
+    ≡ found 0 (row 3 2) none none
+unfolding findings found row with-commit without elected of fork committed committedBy differAt slots leads leadsOf runs runsFrom run votesOf stampOf receiptsOf certified slot boardsOf
+    boardsFrom lastTerm termFrom flatMap rowsFrom charges says clash charge twoVotes twoStamps staleVote staler agree sameRecord same lowest lower sooner
+term-first = refl
+
+-- one leader's stamps in two different terms, on different logs
+two-terms : findings 0 (without (of 1 1 ∷ []) (elected 1 1 0 0 0b011 ∷ [])) (without (of 2 2 ∷ []) (elected 1 2 0 0 0b011 ∷ [])) ≡ found 0 none none none
+unfolding findings found without elected of fork committed committedBy differAt slots leads leadsOf runs runsFrom run votesOf stampOf receiptsOf certified slot boardsOf
+    boardsFrom lastTerm termFrom flatMap rowsFrom charges says clash charge twoVotes twoStamps staleVote staler agree sameRecord same lowest lower sooner
+two-terms = refl
+
+-- ---- forks and rows
+
+-- logs that differ past the lower commit, or with one commit alone, do not fork; the lowest difference counts
+forks : (let a = of 1 1 ∷ of 1 2 ∷ of 1 3 ∷ [] in let b = of 1 1 ∷ of 1 4 ∷ of 1 5 ∷ [] in
+    (fork (with-commit a [] 1 0) (with-commit b [] 3 0) ≡ 0) × (fork (with-commit a [] 3 0) (without b []) ≡ 0)
+    × (fork (with-commit a [] 3 0) (with-commit b [] 3 0) ≡ 2) × (fork (with-commit a [] 2 0) (with-commit (of 2 1 ∷ []) [] 1 0) ≡ 1))
+unfolding fork with-commit without of committed committedBy differAt sameRecord same
+forks = (refl, refl, refl, refl)
+
+-- the lowest rule, then the lowest term of that rule
+rows : (let c : ℕ → ℕ → Charge = λ rule term. record { rule = rule; term = term } in
+    (lowest (c 3 1 ∷ c 2 9 ∷ c 2 7 ∷ c 4 1 ∷ []) ≡ row 2 7) × (lowest (c 4 2 ∷ c 3 5 ∷ []) ≡ row 3 5) × (lowest [] ≡ none)
+    × (maskOf (none ∷ row 2 7 ∷ none ∷ row 3 5 ∷ []) ≡ 0b1010))
+unfolding row lowest lower sooner staler maskOf bit
+rows = (refl, refl, refl, refl)
+
+-- votes of one term for different candidates: only the board that signed both certificates is charged
+two-candidates : findings 0 (without (of 4 1 ∷ []) (elected 1 4 0 0 0b011 ∷ [])) (without (of 4 2 ∷ []) (elected 2 4 0 0 0b110 ∷ []))
+    ≡ found 0 none (row 1 4) none
+unfolding findings found row without elected of fork committed committedBy differAt slots leads leadsOf runs runsFrom run votesOf stampOf receiptsOf certified slot boardsOf
+    boardsFrom lastTerm termFrom flatMap rowsFrom charges says clash charge twoVotes twoStamps staleVote staler agree sameRecord same lowest lower sooner
+two-candidates = refl

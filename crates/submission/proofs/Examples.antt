@@ -1,0 +1,152 @@
+-- Worked examples of the checks 5 to 15: for each a value on either side. Signatures have one byte here, where only their count matters.
+-- Assumes nothing.
+use mathlib.Core.Path.{_≡_, refl}
+use mathlib.Core.Bool.{Bool, true, false}
+use mathlib.Core.List.{List, [], _∷_, _++_, flatMap, map}
+use mathlib.Core.Option.{Option, some, none}
+use Prim.Native.Nat.{ℕ}
+use lib.Count.{ones, onesIn}
+use lib.ListN.{length, take, drop, replicate}
+use Rattle.words.specs.BigEndian.{number, be, numberAt, same}
+use Rattle.words.proofs.Same.{true-same}
+use Rattle.refusal.specs.Checks.{all, every}
+use Rattle.lms.specs.Check.{good}
+use Rattle.roster.specs.Roster.{quorum, keyOf}
+use Rattle.roster.specs.Masks.{signer, boardsFrom, boardsOf}
+use Rattle.chain.specs.Log.{Form, version1, Record, pointer, pointerFrom, termFrom, lastTerm}
+use Rattle.chain.specs.Claim.{Ballot, Claim, stamped, received, voted}
+use Rattle.replica.specs.Ends.{rising}
+use Rattle.submission.specs.Trailer.{trailerAt, name, word, recordCount, leaderCount, distance, version}
+use Rattle.submission.specs.View.{Run, run, runsFrom, runs, Certificate, Commit, View, Lead, leadsOf, leads, committedBy, committed, Slot, slot, certified, votesOf, stampOf, receiptsOf, slots}
+use Rattle.submission.specs.Reading.{view, laidOut, recordSize, ballotSize, recordsOf, ballotAt, signersAt, certificateAt, certificateEnd, certificates, certificatesEnd, stampsAt, commitAt, commitEnd, leadersAt, stampsFrom, commitFrom, commitOf}
+use Rattle.submission.specs.Validate.{sized, versioned, named, counted, quorate, commitSigners, masks, ordered, oneEach, leading, within, genuine}
+
+form : Form
+form = version1 (replicate 16 7)
+
+-- ---- the bytes
+
+-- a trailer: H, L, four distances, version
+trailer : ℕ → ℕ → List ℕ → ℕ → List ℕ
+trailer H L distances v = replicate 16 7 ++ be 4 H ++ be 4 L ++ flatMap (be 4) distances ++ be 4 v
+
+none-at-all : List ℕ
+none-at-all = trailer 0 0 (0 ∷ 0 ∷ 0 ∷ 0 ∷ []) 1
+
+-- 5
+sizes : (sized (replicate 43 0) ≡ false) × (sized (replicate 44 0) ≡ true)
+unfolding sized all
+sizes = (refl, refl)
+
+large : (s : List ℕ) → (length s ≡ 2097152 → sized s ≡ true) × (length s ≡ 2097153 → sized s ≡ false)
+unfolding sized all
+large s = ((λ e. rw e), (λ e. rw e))
+
+-- 6, 7, 8
+fields : (versioned none-at-all ≡ true) × (versioned (trailer 0 0 (0 ∷ 0 ∷ 0 ∷ 0 ∷ []) 2) ≡ false) × (versioned (trailer 0 0 (0 ∷ 0 ∷ 0 ∷ 0 ∷ []) 257) ≡ false)
+    × (named (replicate 16 7) none-at-all ≡ true) × (named (replicate 15 7 ++ (8 ∷ [])) none-at-all ≡ false)
+    × (counted (trailer 4096 64 (0 ∷ 0 ∷ 0 ∷ 0 ∷ []) 1) ≡ true) × (counted (trailer 4097 64 (0 ∷ 0 ∷ 0 ∷ 0 ∷ []) 1) ≡ false)
+    × (counted (trailer 4096 65 (0 ∷ 0 ∷ 0 ∷ 0 ∷ []) 1) ≡ false)
+unfolding none-at-all trailer versioned version named name counted recordCount leaderCount word trailerAt all numberAt number be same flatMap
+fields = (refl, refl, refl, refl, refl, refl, refl, refl)
+
+-- one record of 36 bytes, a leader certificate of 48 bytes with two signatures, a stamp, a commit certificate of 6 bytes with two signatures
+parts : List ℕ
+parts = replicate 36 1 ++ replicate 46 2 ++ be 2 3 ++ (10 ∷ 11 ∷ 12 ∷ []) ++ be 4 1 ++ be 2 5 ++ (13 ∷ 14 ∷ [])
+
+laid : List ℕ → Bool
+laid distances = laidOut form 1 (parts ++ trailer 1 1 distances 1)
+
+-- 9: 95 bytes of parts; each distance one off; no commit certificate where there are bytes for one; one more signature byte than ones
+layouts : (laid (95 ∷ 59 ∷ 9 ∷ 8 ∷ []) ≡ true) × (laid (94 ∷ 59 ∷ 9 ∷ 8 ∷ []) ≡ false) × (laid (95 ∷ 60 ∷ 9 ∷ 8 ∷ []) ≡ false)
+    × (laid (95 ∷ 59 ∷ 10 ∷ 8 ∷ []) ≡ false) × (laid (95 ∷ 59 ∷ 9 ∷ 7 ∷ []) ≡ false) × (laid (95 ∷ 59 ∷ 9 ∷ 0 ∷ []) ≡ false)
+    × (laid (4294967295 ∷ 59 ∷ 9 ∷ 8 ∷ []) ≡ false)
+    × (laidOut form 1 (parts ++ (15 ∷ []) ++ trailer 1 1 (96 ∷ 60 ∷ 10 ∷ 9 ∷ []) 1) ≡ false)
+    × (laidOut form 1 (take 87 parts ++ trailer 1 1 (87 ∷ 51 ∷ 1 ∷ 0 ∷ []) 1) ≡ true)
+    × (laidOut form 1 none-at-all ≡ true) × (laidOut form 1 (trailer 4096 0 (0 ∷ 0 ∷ 0 ∷ 0 ∷ []) 1) ≡ false)
+unfolding laid parts form version1 none-at-all trailer laidOut leadersAt stampsFrom commitFrom commitEnd certificatesEnd certificateEnd signersAt recordSize ballotSize
+    distance recordCount leaderCount word trailerAt all numberAt number be flatMap ones onesIn
+layouts = (refl, refl, refl, refl, refl, refl, refl, refl, refl, refl, refl)
+
+-- what is read: the record, the ballot's fields, whose signature each byte is
+reading : (slots 1 (view form 1 (parts ++ trailer 1 1 (95 ∷ 59 ∷ 9 ∷ 8 ∷ []) 1))
+    ≡ slot 1 (voted (record { candidate = 514; term = 33686018; lastTerm = 33686018; lastIndex = 33686018; lastPointer = replicate 32 2 })) (10 ∷ []) ∷
+    slot 2 (voted (record { candidate = 514; term = 33686018; lastTerm = 33686018; lastIndex = 33686018; lastPointer = replicate 32 2 })) (11 ∷ []) ∷
+    slot 514 (stamped 16843009 (record { term = 16843009; digest = replicate 32 1 } ∷ [])) (12 ∷ []) ∷
+    slot 1 (received 16843009 (record { term = 16843009; digest = replicate 32 1 } ∷ [])) (13 ∷ []) ∷
+    slot 3 (received 16843009 (record { term = 16843009; digest = replicate 32 1 } ∷ [])) (14 ∷ []) ∷ [])
+unfolding slots view parts form version1 trailer leadersAt stampsFrom commitFrom commitOf commitAt certificatesEnd certificateEnd certificates certificateAt ballotAt
+    stampsAt signersAt recordSize ballotSize recordsOf leads leadsOf runs runsFrom run votesOf stampOf receiptsOf certified slot boardsOf boardsFrom lastTerm termFrom
+    distance recordCount leaderCount word trailerAt numberAt number be flatMap ones onesIn
+reading = refl
+
+-- ---- what it says
+
+-- 10: fewer than two of three; bit 4 of three
+quorums : (quorate 3 0b001 ≡ false) × (quorate 3 0b101 ≡ true) × (quorate 3 0b111 ≡ true) × (quorate 3 0b1011 ≡ false) × (quorate 9 0b111100000 ≡ false)
+    × (quorate 9 0b111110000 ≡ true)
+unfolding quorate quorum all ones onesIn
+quorums = (refl, refl, refl, refl, refl, refl)
+
+of : ℕ → Record
+of t = record { term = t; digest = replicate 32 0 }
+
+logged : List Record → List Certificate → View
+logged log leaders = record { log = log; leaders = leaders; stamps = []; commit = none }
+
+-- the signers of every certificate are asked, the commit's too
+every-mask : (masks (record { log = []; leaders = record { ballot = ballotAt form 1 [] 0; signers = 5; signatures = [] } ∷ []; stamps = []; commit = some (record { index = 1; signers = 6; signatures = [] }) })
+    ≡ 5 ∷ 6 ∷ [])
+unfolding masks commitSigners
+every-mask = refl
+
+-- 11: terms above 0 that do not fall
+orders : (ordered (logged (of 1 ∷ of 1 ∷ of 3 ∷ []) []) ≡ true) × (ordered (logged (of 0 ∷ []) []) ≡ false) × (ordered (logged (of 2 ∷ of 1 ∷ []) []) ≡ false)
+    × (ordered (logged [] []) ≡ true)
+unfolding ordered logged of rising
+orders = (refl, refl, refl, refl)
+
+-- the distinct terms, with the log before and up to the last record of each
+terms : (runs [] ≡ []) × (runs (of 1 ∷ of 1 ∷ of 3 ∷ []) ≡ run [] (of 1 ∷ of 1 ∷ []) ∷ run (of 1 ∷ of 1 ∷ []) (of 1 ∷ of 1 ∷ of 3 ∷ []) ∷ [])
+unfolding runs runsFrom run of lastTerm termFrom
+terms = (refl, refl)
+
+certificate : Ballot → ℕ → Certificate
+certificate b mask = record { ballot = b; signers = mask; signatures = [] }
+
+ballot : ℕ → ℕ → ℕ → ℕ → List ℕ → Ballot
+ballot candidate t u j p = record { candidate = candidate; term = t; lastTerm = u; lastIndex = j; lastPointer = p }
+
+-- 12
+counts : (let c = certificate (ballot 1 1 0 0 []) 3 in (oneEach (logged (of 1 ∷ of 1 ∷ of 3 ∷ []) (c ∷ c ∷ [])) ≡ true)
+    × (oneEach (logged (of 1 ∷ of 1 ∷ of 3 ∷ []) (c ∷ [])) ≡ false) × (oneEach (logged [] (c ∷ [])) ≡ false))
+unfolding oneEach logged runs runsFrom run of lastTerm termFrom
+counts = (refl, refl, refl)
+
+-- 13: the first term of a log, of three boards, signers 1 and 2
+leads-with : ℕ → ℕ → ℕ → ℕ → List ℕ → Bool
+leads-with candidate t u j p =
+    leading form 3 (record { certificate = certificate (ballot candidate t u j p) 3; term = run [] (of 4 ∷ []); stamp = [] })
+
+leaders : (leads-with 2 4 0 0 (replicate 32 0) ≡ true) × (leads-with 2 5 0 0 (replicate 32 0) ≡ false) × (leads-with 2 4 1 0 (replicate 32 0) ≡ false)
+    × (leads-with 2 4 0 1 (replicate 32 0) ≡ false) × (leads-with 2 4 0 0 (replicate 31 0 ++ (1 ∷ [])) ≡ false)
+    × (leads-with 0 4 0 0 (replicate 32 0) ≡ false) × (leads-with 3 4 0 0 (replicate 32 0) ≡ false) × (leads-with 4 4 0 0 (replicate 32 0) ≡ false)
+    × (leads-with 17 4 0 0 (replicate 32 0) ≡ false)
+unfolding leads-with leading certificate ballot run of all same pointer pointerFrom lastTerm termFrom signer form version1
+leaders = (refl, refl, refl, refl, refl, refl, refl, refl, refl)
+
+-- and a later term: record j - 1's term and pointer
+later : leading form 3 (record { certificate = certificate (ballot 1 4 3 1 (pointer form (of 3 ∷ []))) 3; term = run (of 3 ∷ []) (of 3 ∷ of 4 ∷ []); stamp = [] }) ≡ true
+unfolding leading certificate ballot run of all lastTerm termFrom signer
+later = rw (true-same (pointer form (of 3 ∷ [])))
+
+-- 14: a log of two records
+commits : (let at : ℕ → Option Commit = λ i. some (record { index = i; signers = 3; signatures = [] }) in
+    (within none 2 ≡ true) × (within (at 0) 2 ≡ false) × (within (at 1) 2 ≡ true) × (within (at 2) 2 ≡ true) × (within (at 3) 2 ≡ false))
+unfolding within all
+commits = (refl, refl, refl, refl, refl)
+
+-- 15: no signature is good under what is no key; the empty log has none to be bad
+signatures : (genuine form [] (slot 1 (stamped 4 (of 4 ∷ [])) (replicate 1292 0)) ≡ false) × (every (genuine form []) (slots 1 (logged [] [])) ≡ true)
+unfolding genuine good keyOf slot every slots logged leads leadsOf runs receiptsOf flatMap
+signatures = (refl, refl)
