@@ -12,7 +12,7 @@ use Rattle.refusal.specs.Checks.{all}
 use Rattle.chain.specs.Log.{Form, version1, Record, termFrom, lastTerm}
 use Rattle.chain.specs.Claim.{Ballot}
 use Rattle.replica.specs.Ends.{rising, staler}
-use Rattle.replica.specs.Replica.{State, Act, raise, vote, run, add, stamp, receipt, fitsTerm, fitsIndex, fitsRecords, oneCandidate, noStamp, noStaler, rules, allowed}
+use Rattle.replica.specs.Replica.{State, Act, raise, vote, run, add, stamp, receipt, decline, restart, fitsTerm, fitsIndex, fitsRecords, oneCandidate, noStamp, noStaler, rules, allowed}
 use Rattle.replica.specs.Charges.{twoVotes, twoStamps, staleVote, agree, sameRecord}
 
 -- a record of a term, with one byte of its payload digest
@@ -55,6 +55,16 @@ others : (may none (add (of 4 7)) ≡ true) × (may none (add (of 3 7)) ≡ fals
     × (may none (receipt 2) ≡ true) × (may none (receipt 1) ≡ false) × (may none (receipt 0) ≡ false) × (may none (receipt 3) ≡ false)
 unfolding may ready of ballot allowed all rules fitsTerm fitsIndex fitsRecords oneCandidate noStamp noStaler lastTerm termFrom rising staler version1
 others = (refl, refl, refl, refl, refl, refl, refl, refl)
+
+-- at a term with a log, with no vote and no stamp: no stamp on an empty log or on another term's record, no record of term 0, a payload digest of 32
+-- bytes; declining and restarting are always allowed
+at : ℕ → List Record → Act → Bool
+at t log a = allowed (version1 (replicate 16 0)) 3 (record { term = t; vote = none; stamp = none; log = log }) a
+
+edges : (at 0 [] stamp ≡ false) × (at 5 (of 4 0 ∷ []) stamp ≡ false) × (at 0 [] (add (of 0 7)) ≡ false) × (at 1 [] (add (of 1 7)) ≡ true)
+    × (at 1 [] (add (record { term = 1; digest = replicate 31 0 })) ≡ false) × (at 0 [] decline ≡ true) × (at 0 [] restart ≡ true)
+unfolding at of allowed all rules fitsTerm fitsIndex fitsRecords lastTerm termFrom version1
+edges = (refl, refl, refl, refl, refl, refl, refl)
 
 -- document 01, worked figures of rule 3: after a receipt (term 3, index 7), a vote in term 5
 stale : (staleVote 3 (replicate 7 (of 3 0)) (ballot 1 5 3 6) ≡ true) × (staleVote 3 (replicate 7 (of 3 0)) (ballot 1 5 3 7) ≡ false)
