@@ -1,1 +1,4 @@
 mod Examples
+pub mod Agree
+pub mod Blame
+pub mod Rows

@@ -1,3 +1,3 @@
 mod Examples
-mod Order
+pub mod Order
 pub mod Honest

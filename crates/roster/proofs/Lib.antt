@@ -1,2 +1,3 @@
 pub mod Quorums
 mod Examples
+pub mod Masks

@@ -54,7 +54,7 @@ odd-or-even m h = go (m % 2) refl
     go (suc zero) e = absurd (h e)
     go (suc (suc r)) e = omega arith
 
-shift : (m j : ℕ) → m / 2 ^ suc j ≡ m / 2 / 2 ^ j
+pub shift : (m j : ℕ) → m / 2 ^ suc j ≡ m / 2 / 2 ^ j
 shift m j = rw (pow-succ', ← div-div-eq-div-mul m 2 (2 ^ j))
 
 -- a mask with ones has one at some bit

@@ -1,2 +1,4 @@
 pub mod Accepted
 mod Examples
+pub mod Runs
+pub mod Slots

@@ -1,0 +1,83 @@
+-- The mask of the rows: bit k - 1 is a one exactly where board k has a charge, and there is none above the rows.
+-- Assumes nothing.
+use mathlib.Core.Path.{_≡_, refl, ap, _∙_}
+use mathlib.Core.Bool.{true, false}
+use mathlib.Core.List.{List, [], _∷_, List·Memᴰ, List·Memᴰ·not-nil}
+use mathlib.Core.Option.{Option, some, none}
+use Prim.Native.Nat.{ℕ, zero, suc, _+_, _-_, _*_, _/_, _%_, _^_, _≤_, _<_}
+use native.Mathlib.Nat.{div-one, pow-suc}
+use native.Mathlib.Omega.{arith}
+use borrow.Author.Tests.{eq-eqb}
+use lib.ListN.{length}
+use Rattle.roster.specs.Masks.{signer}
+use Rattle.roster.proofs.Quorums.{shift}
+use Rattle.roster.proofs.Masks.{signer-positive}
+use Rattle.replica.specs.Charges.{Charge}
+use Rattle.submission.specs.View.{Slot}
+use Rattle.forensics.specs.Findings.{charges, lowest, lower, rowsFrom, bit, maskOf}
+
+-- ---- one row
+
+-- a board with a charge has a row, and a one
+pub lowest-some : (cs : List Charge) (c : Charge) → List·Memᴰ c cs → (d : Charge) × (lowest cs ≡ some d)
+unfolding lowest
+lowest-some [] c m = absurd (List·Memᴰ·not-nil m)
+lowest-some (d ∷ cs) c m = (lower d (lowest cs), refl)
+
+bit-one : (cs : List Charge) (c : Charge) → List·Memᴰ c cs → bit (lowest cs) ≡ 1
+unfolding bit
+bit-one cs c m = rw (lowest-some cs c m .1)
+
+bit-none : (cs : List Charge) → cs ≡ [] → bit (lowest cs) ≡ 0
+unfolding bit lowest
+bit-none cs e = rw e
+
+bit-small : (row : Option Charge) → bit row < 2
+unfolding bit
+bit-small none = omega arith
+bit-small (some c) = omega arith
+
+-- ---- the mask
+
+pub mask-small : (rows : List (Option Charge)) → maskOf rows < 2 ^ length rows
+unfolding maskOf
+mask-small [] = omega arith
+mask-small (row ∷ rows) = rw pow-suc (omega (arith, bit-small row, mask-small rows))
+
+mask-low : (row : Option Charge) (rest : ℕ) → (bit row + 2 * rest) % 2 ≡ bit row
+mask-low row rest = omega (arith, bit-small row)
+
+mask-half : (row : Option Charge) (rest : ℕ) → (bit row + 2 * rest) / 2 ≡ rest
+mask-half row rest = omega (arith, bit-small row)
+
+module _ (xs ys : List Slot) where
+  -- the bit of board k, j boards after the first row's
+  mask-bit : (count k j : ℕ) → j < count → maskOf (rowsFrom count k xs ys) / 2 ^ j % 2 ≡ bit (lowest (charges (k + j) xs ys))
+  unfolding maskOf rowsFrom
+  mask-bit zero k j h = absurd (omega arith)
+  mask-bit (suc count) k zero h =
+      let place : k + 0 ≡ k = omega arith in rw (div-one, place) (mask-low (lowest (charges k xs ys)) (maskOf (rowsFrom count (suc k) xs ys)))
+  mask-bit (suc count) k (suc j) h =
+      let m = bit (lowest (charges k xs ys)) + 2 * maskOf (rowsFrom count (suc k) xs ys) in
+      let place : suc k + j ≡ k + suc j = omega arith in
+      let half = mask-half (lowest (charges k xs ys)) (maskOf (rowsFrom count (suc k) xs ys)) in
+      ap (λ x. x % 2) (shift m j) ∙ ap (λ x. x / 2 ^ j % 2) half ∙ mask-bit count (suc k) j (omega arith) ∙ ap (λ x. bit (lowest (charges x xs ys))) place
+
+  board-bit : (count k : ℕ) → 0 < k → k ≤ count → maskOf (rowsFrom count 1 xs ys) / 2 ^ (k - 1) % 2 ≡ bit (lowest (charges k xs ys))
+  board-bit count k p h =
+      let place : 1 + (k - 1) ≡ k = omega arith in
+      mask-bit count 1 (k - 1) (omega arith) ∙ ap (λ x. bit (lowest (charges x xs ys))) place
+
+  -- a board with a charge is in the mask
+  pub mask-named : (count k : ℕ) → 0 < k → k ≤ count → (c : Charge) → List·Memᴰ c (charges k xs ys) → signer (maskOf (rowsFrom count 1 xs ys)) k ≡ true
+  unfolding signer
+  mask-named count k p h c m = eq-eqb _ 1 (board-bit count k p h ∙ bit-one _ c m)
+
+  -- a board without is not
+  pub mask-clear : (count k : ℕ) → 0 < k → k ≤ count → charges k xs ys ≡ [] → signer (maskOf (rowsFrom count 1 xs ys)) k ≡ false
+  unfolding signer
+  mask-clear count k p h e = rw (board-bit count k p h ∙ bit-none (charges k xs ys) e)
+
+  -- some board with a charge: the mask is not 0
+  pub mask-positive : (count k : ℕ) → 0 < k → k ≤ count → (c : Charge) → List·Memᴰ c (charges k xs ys) → 0 < maskOf (rowsFrom count 1 xs ys)
+  mask-positive count k p h c m = signer-positive _ k (mask-named count k p h c m)
