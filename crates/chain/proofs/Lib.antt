@@ -1,2 +1,3 @@
 pub mod Injective
+pub mod Prefix
 pub mod Said

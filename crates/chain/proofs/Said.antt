@@ -72,7 +72,7 @@ module _ (form : Form) where
 
 -- ---- the lengths of document 01, for version 1
 
-pointer-length : (form : Form) (i : ℕ) (p : List ℕ) (l : List Record) → length p ≡ 32 → length (pointerFrom form i p l) ≡ 32
+pub pointer-length : (form : Form) (i : ℕ) (p : List ℕ) (l : List Record) → length p ≡ 32 → length (pointerFrom form i p l) ≡ 32
 unfolding pointerFrom
 pointer-length form i p [] h = h
 pointer-length form i p (r ∷ l) h =

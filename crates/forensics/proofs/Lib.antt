@@ -2,3 +2,4 @@ mod Examples
 pub mod Agree
 pub mod Blame
 pub mod Rows
+pub mod Fair

@@ -1,3 +1,4 @@
 mod Bytes
 mod Examples
 pub mod Figures
+pub mod Fairness

@@ -2,3 +2,4 @@ pub mod Accepted
 mod Examples
 pub mod Runs
 pub mod Slots
+pub mod Fits

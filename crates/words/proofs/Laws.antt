@@ -15,7 +15,7 @@ use Rattle.words.specs.BigEndian.{number, be, numberAt, Bytes, none, mor
 
 -- ---- powers of 256
 
-pow-256-pos : (w : ℕ) → 0 < 256 ^ w
+pub pow-256-pos : (w : ℕ) → 0 < 256 ^ w
 pow-256-pos zero = lit< tt
 pow-256-pos (suc w) = let h = pow-256-pos w in rw pow-suc (omega arith)
 
@@ -56,6 +56,22 @@ number-append [] ys = rw (zero-mul, zero-add)
 number-append (x ∷ xs) ys =
     rw (number-append xs ys, length-append xs ys, pow-add 256 (length xs) (length ys), add-mul, mul-assoc, add-assoc)
 
+-- ---- lists of bytes
+
+pub bytes-each : (l : List ℕ) → ((i : ℕ) → getD l i 0 < 256) → Bytes l
+bytes-each [] h = none
+bytes-each (x ∷ xs) h = more (h 0) (bytes-each xs (λ i. h (suc i)))
+
+pub bytes-drop : (n : ℕ) (l : List ℕ) → Bytes l → Bytes (drop n l)
+bytes-drop zero l h = h
+bytes-drop (suc n) [] h = none
+bytes-drop (suc n) (x ∷ xs) (more b t) = bytes-drop n xs t
+
+pub bytes-take : (n : ℕ) (l : List ℕ) → Bytes l → Bytes (take n l)
+bytes-take zero l h = none
+bytes-take (suc n) [] h = none
+bytes-take (suc n) (x ∷ xs) (more b t) = more b (bytes-take n xs t)
+
 -- ---- a number at a place
 
 -- the highest byte, then the number of the bytes after it
@@ -81,6 +97,14 @@ pub numberAt-4 : (s : List ℕ) (at : ℕ) → at + 4 ≤ length s
 numberAt-4 s at h =
     rw (numberAt-suc 3 s at h, numberAt-suc 2 s (at + 1) (omega arith), add-assoc, numberAt-2 s (at + 2) (omega arith), add-assoc)
     (omega arith)
+
+-- a number of so many bytes fits them
+pub numberAt-lt : (w : ℕ) (s : List ℕ) (at : ℕ) → Bytes s → numberAt w s at < 256 ^ w
+unfolding numberAt
+numberAt-lt w s at h =
+    let bytes = bytes-take w (drop at s) (bytes-drop at s h) in
+    let few : length (take w (drop at s)) ≤ w = rw length-take (omega arith) in
+    lt-of-lt-of-le (number-lt bytes) (pow-le-pow-right (lit< tt) few)
 
 -- a number at a place of a part
 pub numberAt-drop : (w : ℕ) (xs : List ℕ) (n at : ℕ) → numberAt w (drop n xs) at ≡ numberAt w xs (n + at)
@@ -124,22 +148,6 @@ unfolding be number
 be-number none = refl
 be-number (more {b = b} {bs = bs} h t) =
     rw (digits-div b (number-lt t), mod-eq-of-lt h, be-low (length bs) b (number bs), be-number t)
-
--- ---- lists of bytes
-
-pub bytes-each : (l : List ℕ) → ((i : ℕ) → getD l i 0 < 256) → Bytes l
-bytes-each [] h = none
-bytes-each (x ∷ xs) h = more (h 0) (bytes-each xs (λ i. h (suc i)))
-
-pub bytes-drop : (n : ℕ) (l : List ℕ) → Bytes l → Bytes (drop n l)
-bytes-drop zero l h = h
-bytes-drop (suc n) [] h = none
-bytes-drop (suc n) (x ∷ xs) (more b t) = bytes-drop n xs t
-
-pub bytes-take : (n : ℕ) (l : List ℕ) → Bytes l → Bytes (take n l)
-bytes-take zero l h = none
-bytes-take (suc n) [] h = none
-bytes-take (suc n) (x ∷ xs) (more b t) = more b (bytes-take n xs t)
 
 -- ---- runs of stores
 

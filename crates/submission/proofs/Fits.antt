@@ -1,0 +1,215 @@
+-- Every statement of an accepted submission fits its fields and speaks of its log: numbers read from so many bytes fit them, each term of the
+-- log is a beginning of it, and a leader certificate's last pointer is one.
+-- Assumes nothing.
+use mathlib.Core.Path.{_≡_, refl, sym, ap, subst, _∙_}
+use mathlib.Core.Bool.{true}
+use mathlib.Core.List.{List, [], _∷_, _++_, map, flatMap, List·Memᴰ, List·Memᴰ·head, List·Memᴰ·tail, List·Memᴰ·not-nil, List·Memᴰ·cases-cons, List·Memᴰ·eq-of-singleton, List·Memᴰ·append-cases, Memᴰ·of-map}
+use mathlib.Core.Logic.{⊎-elim}
+use mathlib.Core.Option.{Option, some, none}
+use Prim.Native.Nat.{ℕ, zero, suc, _+_, _*_, _^_, _≤_, _<_}
+use native.Mathlib.Nat.{mul-suc}
+use native.Mathlib.Omega.{arith}
+use borrow.Author.Tests.{eqb-true, leb-true}
+use lib.Dec.{eqb}
+use lib.ListN.{length, take, drop, replicate, length-take, length-drop}
+use lib.Seq.{append-snoc, take-append-seam, length-take-le}
+use Rattle.words.specs.BigEndian.{Bytes, numberAt}
+use Rattle.words.proofs.Laws.{numberAt-lt, bytes-drop}
+use Rattle.words.proofs.Members.{joined-mem, mem-cond}
+use Rattle.words.proofs.Same.{same-true}
+use Rattle.refusal.specs.Checks.{every}
+use Rattle.refusal.proofs.Laws.{all-cons, every-mem}
+use Rattle.roster.specs.Roster.{boards, signatureSize}
+use Rattle.roster.specs.Masks.{boardsOf}
+use Rattle.chain.specs.Log.{Form, Record, pointer, chainStrings, lastTerm}
+use Rattle.chain.specs.Claim.{Claim, stamped, received, voted, stringsOf}
+use Rattle.chain.specs.Fits.{LogFits, empty, more, PlaceFits, BallotFits, ClaimFits}
+use Rattle.chain.proofs.Prefix.{strings-take, fits-take, last-fits}
+use Rattle.chain.proofs.Said.{pointer-length}
+use Rattle.submission.specs.Trailer.{trailerAt, recordCount, distance}
+use Rattle.submission.specs.View.{Run, run, runsFrom, runs, Certificate, Commit, Lead, leadsOf, leads, Slot, slot, certified, votesOf, stampOf, receiptsOf, slots}
+use Rattle.submission.specs.Reading.{recordSize, recordsOf, ballotAt, certificateAt, certificateEnd, certificates, leadersAt, view, laidOut}
+use Rattle.submission.specs.Validate.{recordMost, counted, leading, formOf, viewOf, slotsOf}
+use Rattle.submission.proofs.Accepted.{Accepted}
+
+-- ---- the records
+
+module _ (form : Form) (S : ℕ) where
+  length-records : (count : ℕ) (bytes : List ℕ) → length (recordsOf form S count bytes) ≡ count
+  unfolding recordsOf
+  length-records zero bytes = refl
+  length-records (suc count) bytes = ap suc (length-records count (drop (recordSize form S) bytes))
+
+  records-fit : (count : ℕ) (bytes : List ℕ) → Bytes bytes → recordSize form S * count ≤ length bytes → LogFits form (recordsOf form S count bytes)
+  unfolding recordsOf recordSize numberAt
+  records-fit zero bytes b h = empty
+  records-fit (suc count) bytes b h =
+      let w = form .termBytes in
+      let room : (w + 32) * count + (w + 32) ≤ length bytes = rw mul-suc at h in
+      let rest : (w + 32) * count ≤ length (drop (w + 32) bytes) = rw length-drop (omega arith) in
+      let digest : length (take 32 (drop w bytes)) ≡ 32 = length-take-le 32 (drop w bytes) (rw length-drop (omega arith)) in
+      more (record { term = numberAt-lt w bytes 0 b; digest = digest }) (records-fit count (drop (w + 32) bytes) (bytes-drop (w + 32) bytes b) rest)
+
+  -- ---- the leader certificates
+
+  module _ (s : List ℕ) (bytes : Bytes s) where
+    ballot-fits : (at : ℕ) → length (ballotAt form S s at .lastPointer) ≡ 32 → BallotFits form (ballotAt form S s at)
+    unfolding ballotAt
+    ballot-fits at h =
+        record {
+          candidate = numberAt-lt 2 s _ bytes;
+          term = numberAt-lt (form .termBytes) s _ bytes;
+          lastTerm = numberAt-lt (form .termBytes) s _ bytes;
+          lastIndex = numberAt-lt 4 s _ bytes;
+          lastPointer = h;
+        }
+
+    certificate-fits : (count at : ℕ) (c : Certificate) → List·Memᴰ c (certificates form S s count at) → length (c .ballot .lastPointer) ≡ 32
+        → BallotFits form (c .ballot)
+    unfolding certificates certificateAt
+    certificate-fits zero at c m = absurd (List·Memᴰ·not-nil m)
+    certificate-fits (suc count) at c m =
+        ⊎-elim
+        (λ (e : c ≡ certificateAt form S s at).
+        subst (λ (d : Certificate). length (d .ballot .lastPointer) ≡ 32 → BallotFits form (d .ballot)) (sym e) (ballot-fits at))
+        (λ (h : List·Memᴰ c (certificates form S s count (certificateEnd form S s at))). certificate-fits count (certificateEnd form S s at) c h)
+        (List·Memᴰ·cases-cons m)
+
+-- check 13: the last pointer is a pointer
+lead-pointer : (form : Form) (n : ℕ) (l : Lead) → leading form n l ≡ true → length (l .certificate .ballot .lastPointer) ≡ 32
+unfolding leading pointer
+lead-pointer form n l e =
+    let e3 = all-cons _ _ (all-cons _ _ (all-cons _ _ e .1) .1) in
+    let e4 = all-cons _ _ (e3 .1) in
+    ap length (same-true _ _ (e4 .0)) ∙ pointer-length form 0 (replicate 32 0) (l .term .before) refl
+
+lead-parts : (cs : List Certificate) (rs : List Run) (gs : List (List ℕ)) (l : Lead) → List·Memᴰ l (leadsOf cs rs gs)
+    → List·Memᴰ (l .certificate) cs × List·Memᴰ (l .term) rs
+unfolding leadsOf
+lead-parts [] rs gs l m = absurd (List·Memᴰ·not-nil m)
+lead-parts (c ∷ cs) [] gs l m = absurd (List·Memᴰ·not-nil m)
+lead-parts (c ∷ cs) (r ∷ rs) [] l m = absurd (List·Memᴰ·not-nil m)
+lead-parts (c ∷ cs) (r ∷ rs) (g ∷ gs) l m =
+    ⊎-elim
+    (λ (e : l ≡ record { certificate = c; term = r; stamp = g }).
+    (List·Memᴰ·head (ap (λ (x : Lead). x .certificate) e), List·Memᴰ·head (ap (λ (x : Lead). x .term) e)))
+    (λ (h : List·Memᴰ l (leadsOf cs rs gs)). let p = lead-parts cs rs gs l h in (List·Memᴰ·tail (p .0), List·Memᴰ·tail (p .1)))
+    (List·Memᴰ·cases-cons m)
+
+-- ---- the terms of a log
+
+runs-from : (before upto log : List Record) (r : Run) → List·Memᴰ r (runsFrom before upto log)
+    → (rest : List Record) × (r .upto ++ rest ≡ upto ++ log)
+unfolding runsFrom run
+runs-from before upto [] r m = ([], ap (λ (x : Run). x .upto ++ []) (List·Memᴰ·eq-of-singleton m))
+runs-from before upto (q ∷ log) r m =
+    let longer = upto ++ (q ∷ []) in
+    let Begins : Type 0 = (rest : List Record) × (r .upto ++ rest ≡ upto ++ (q ∷ log)) in
+    let later : (b : List Record) → List·Memᴰ r (runsFrom b longer log) → Begins =
+    λ b h. let p = runs-from b longer log r h in (p .0, p .1 ∙ append-snoc upto q log) in
+    ⊎-elim
+    (λ h. later before (h .1))
+    (λ h.
+    ⊎-elim (λ (e : r ≡ run before upto). (q ∷ log, ap (λ (x : Run). x .upto ++ (q ∷ log)) e)) (λ k. later upto k) (List·Memᴰ·cases-cons (h .1)))
+    (mem-cond (eqb (q .term) (lastTerm upto)) (runsFrom before longer log) (run before upto ∷ runsFrom upto longer log) r m)
+
+-- the log up to a term's last record is a beginning of the log
+run-begins : (log : List Record) (r : Run) → List·Memᴰ r (runs log) → (i : ℕ) × (r .upto ≡ take i log)
+unfolding runs
+run-begins [] r m = absurd (List·Memᴰ·not-nil m)
+run-begins (q ∷ log) r m =
+    let p = runs-from [] (q ∷ []) log r m in
+    (length (r .upto), sym (take-append-seam (r .upto) (p .0)) ∙ ap (take (length (r .upto))) (p .1))
+
+-- ---- what each signature stands on
+
+-- a claim that fits its fields and speaks of a beginning of the log
+pub record SpeaksOf (form : Form) (log : List Record) (c : Claim) : Type 0 where
+  pub fits : ClaimFits form c
+  pub strings : (x : List ℕ) → List·Memᴰ x (stringsOf form c) → List·Memᴰ x (chainStrings form log)
+
+module _ (form : Form) (S : ℕ) where
+  certified-claim : (claim : Claim) (ks : List ℕ) (bytes : List ℕ) (x : Slot) → List·Memᴰ x (certified S claim ks bytes) → x .claim ≡ claim
+  unfolding certified slot
+  certified-claim claim [] bytes x m = absurd (List·Memᴰ·not-nil m)
+  certified-claim claim (k ∷ ks) bytes x m =
+      ⊎-elim (λ e. ap (λ (y : Slot). y .claim) e) (λ h. certified-claim claim ks (drop S bytes) x h) (List·Memᴰ·cases-cons m)
+
+  module _ (log : List Record) (fits : LogFits form log) (few : length log < 256 ^ 4) where
+    part-fits : (i : ℕ) → PlaceFits form (lastTerm (take i log)) (take i log)
+    part-fits i =
+        let part = fits-take form i fits in
+        record { term = last-fits form part; index = omega (arith, length-take i log, few); records = part }
+
+    stamp-speaks : (i : ℕ) → SpeaksOf form log (stamped (lastTerm (take i log)) (take i log))
+    unfolding stringsOf
+    stamp-speaks i = record { fits = part-fits i; strings = strings-take form i log }
+
+    receipt-speaks : (i : ℕ) → SpeaksOf form log (received (lastTerm (take i log)) (take i log))
+    unfolding stringsOf
+    receipt-speaks i = record { fits = part-fits i; strings = strings-take form i log }
+
+    receipts-speak : (c : Option Commit) (x : Slot) → List·Memᴰ x (receiptsOf S c log) → SpeaksOf form log (x .claim)
+    unfolding receiptsOf
+    receipts-speak none x m = absurd (List·Memᴰ·not-nil m)
+    receipts-speak (some c) x m =
+        subst (SpeaksOf form log) (sym (certified-claim _ (boardsOf (c .signers)) (c .signatures) x m)) (receipt-speaks (c .index))
+
+    stamps-speak : (l : Lead) → List·Memᴰ (l .term) (runs log) → SpeaksOf form log (stampOf S l .claim)
+    unfolding stampOf slot
+    stamps-speak l m =
+        let r = run-begins log (l .term) m in
+        subst (λ (u : List Record). SpeaksOf form log (stamped (lastTerm u) u)) (sym (r .1)) (stamp-speaks (r .0))
+
+    votes-speak : (l : Lead) → BallotFits form (l .certificate .ballot) → (x : Slot) → List·Memᴰ x (votesOf S l) → SpeaksOf form log (x .claim)
+    unfolding votesOf stringsOf
+    votes-speak l f x m =
+        let vote : SpeaksOf form log (voted (l .certificate .ballot)) =
+        record { fits = f; strings = λ y h. absurd (List·Memᴰ·not-nil h) } in
+        subst (SpeaksOf form log) (sym (certified-claim _ (boardsOf (l .certificate .signers)) (l .certificate .signatures) x m)) vote
+
+  -- over the bytes of a submission
+  module _ (n : ℕ) (s : List ℕ) (bytes : Bytes s) (room : recordSize form S * recordCount s ≤ length s) (few : recordCount s < 256 ^ 4) where
+    slots-speak : every (leading form n) (leads (view form S s)) ≡ true
+        → (x : Slot) → List·Memᴰ x (slots S (view form S s)) → SpeaksOf form (view form S s .log) (x .claim)
+    unfolding slots leads view
+    slots-speak lead x m =
+        let v = view form S s in
+        let log = recordsOf form S (recordCount s) s in
+        let fits = records-fit form S (recordCount s) s bytes room in
+        let short : length log < 256 ^ 4 = rw length-records few in
+        let parts : (l : Lead) → List·Memᴰ l (leads v) → List·Memᴰ (l .certificate) (v .leaders) × List·Memᴰ (l .term) (runs log) =
+        λ l h. lead-parts (v .leaders) (runs log) (v .stamps) l h in
+        let votes : List·Memᴰ x (flatMap (votesOf S) (leads v)) → SpeaksOf form log (x .claim) =
+        λ h. let j = joined-mem (votesOf S) (leads v) x h in
+        let pointed = lead-pointer form n (j .0) (every-mem (leading form n) (leads v) lead (j .0) (j .1)) in
+        votes-speak log fits short (j .0) (certificate-fits form S s bytes _ _ (j .0 .certificate) (parts (j .0) (j .1) .0) pointed) x (j .2) in
+        let stamps : List·Memᴰ x (map (stampOf S) (leads v)) → SpeaksOf form log (x .claim) =
+        λ h. let j = Memᴰ·of-map (stampOf S) (leads v) h in
+        subst (λ (y : Slot). SpeaksOf form log (y .claim)) (j .2) (stamps-speak log fits short (j .0) (parts (j .0) (j .1) .1)) in
+        ⊎-elim
+        (λ h. ⊎-elim votes stamps (List·Memᴰ·append-cases (flatMap (votesOf S) (leads v)) h))
+        (λ h. receipts-speak log fits short (v .commit) x h)
+        (List·Memᴰ·append-cases (flatMap (votesOf S) (leads v) ++ map (stampOf S) (leads v)) m)
+
+-- ---- of an accepted submission
+
+-- check 9: part 1 has the bytes of its records
+records-room : (form : Form) (S : ℕ) (s : List ℕ) → laidOut form S s ≡ true → recordSize form S * recordCount s ≤ length s
+unfolding laidOut leadersAt trailerAt
+records-room form S s e =
+    let e2 = all-cons _ _ (all-cons _ _ e .1) in
+    omega (arith, eqb-true (leadersAt form S s + distance s 2) (trailerAt s) (e2 .0))
+
+-- check 8: an index fits its field
+records-few : (s : List ℕ) → counted s ≡ true → recordCount s < 256 ^ 4
+unfolding counted
+records-few s e = omega (arith, leb-true (recordCount s) recordMost (all-cons _ _ e .0))
+
+pub accepted-speaks : (roster s : List ℕ) → Bytes s → Accepted roster s
+    → (x : Slot) → List·Memᴰ x (slotsOf roster s) → SpeaksOf (formOf roster) (viewOf roster s .log) (x .claim)
+unfolding slotsOf viewOf
+accepted-speaks roster s bytes ok x m =
+    let form = formOf roster in
+    let S = signatureSize roster in
+    slots-speak form S (boards roster) s bytes (records-room form S s (ok .layout)) (records-few s (ok .counts)) (ok .sound .leaders) x m
