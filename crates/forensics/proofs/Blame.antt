@@ -20,9 +20,9 @@ use Rattle.chain.specs.Log.{Form, Record, lastTerm}
 use Rattle.chain.specs.Claim.{Ballot, Claim, stamped, received, voted}
 use Rattle.replica.specs.Ends.{staler}
 use Rattle.replica.specs.Charges.{Charge, charge, clash, agree, twoVotes, twoStamps, staleVote}
-use Rattle.replica.proofs.Order.{fresh, take-last-le}
+use Rattle.replica.proofs.Order.{fresh}
 use Rattle.submission.specs.View.{Run, runs, View, committed, Slot, slots}
-use Rattle.submission.specs.Validate.{quorate, ordered}
+use Rattle.submission.specs.Validate.{quorate}
 use Rattle.submission.proofs.Accepted.{Sound}
 use Rattle.submission.proofs.Runs.{run-begins, Reaches, run-reaches, Crosses, run-crosses}
 use Rattle.submission.proofs.Slots.{mem-flatMap, Stands, Led, led, Settled, settled, quorate-facts}
@@ -151,14 +151,13 @@ module _ (form : Form) (n S : ℕ) (small : n ≤ 16) (a b : View) (soundA : Sou
 
   -- the commit of `a` is of no later term
   earlier : lastTerm (take (x .index) (a .log)) ≤ lastTerm (take (y .index) (b .log)) → Fault n (slots S a) (slots S b)
-  unfolding ordered
   earlier h =
       let t = lastTerm (take (x .index) (a .log)) in
       let u = lastTerm (take (y .index) (b .log)) in
       let r = run-reaches (a .log) (x .index) (x .above) (x .within) in
       let s = run-reaches (b .log) (y .index) (y .above) (y .within) in
       ⊎-elim
-      (λ (e : ltb t u ≡ true). first-above r (run-crosses (b .log) t (omega (arith, ltb-true t u e, take-last-le (y .index) (b .log) (soundB .order)))))
+      (λ (e : ltb t u ≡ true). first-above r (run-crosses (b .log) t (omega (arith, ltb-true t u e, y .reach))))
       (λ e.
       meet (r .of) (s .of) (r .member) (s .member) (omega (arith, r .term, s .term, ltb-false t u e))
       (omega (arith, r .far)) (omega (arith, s .far)))

@@ -18,8 +18,10 @@ use Rattle.roster.specs.Masks.{signer}
 use Rattle.roster.proofs.Masks.{listed}
 use Rattle.chain.specs.Log.{Form, Record, lastTerm}
 use Rattle.chain.specs.Claim.{Ballot, Claim, stamped, received, voted}
+use Rattle.replica.specs.Ends.{rising}
+use Rattle.replica.proofs.Order.{take-last-le}
 use Rattle.submission.specs.View.{Run, runs, Certificate, Commit, View, Lead, leadsOf, leads, committedBy, committed, Slot, slot, certified, votesOf, stampOf, receiptsOf, slots}
-use Rattle.submission.specs.Validate.{quorate, commitSigners, masks, oneEach, leading, within}
+use Rattle.submission.specs.Validate.{quorate, commitSigners, masks, ordered, oneEach, leading, within}
 use Rattle.submission.proofs.Accepted.{Sound}
 
 -- ---- members
@@ -124,15 +126,16 @@ pub record Settled (n : ℕ) (xs : List Slot) (log done : List Record) : Type 0 
   pub records : done ≡ take index log
   pub above : 0 < index
   pub within : index ≤ length log
+  pub reach : lastTerm (take index log) ≤ lastTerm log
   pub quorum : quorate n signers ≡ true
   pub receipts : (k : ℕ) → 0 < k → k ≤ 16 → signer signers k ≡ true → Stands xs k (received (lastTerm (take index log)) (take index log))
 
 settled-by : (n S : ℕ) (o : Option Commit) (log : List Record) (xs : List Slot) → (committedBy o log ≡ [] → ⊥)
-    → ((mask : ℕ) → List·Memᴰ mask (commitSigners o) → quorate n mask ≡ true) → within o (length log) ≡ true
+    → ((mask : ℕ) → List·Memᴰ mask (commitSigners o) → quorate n mask ≡ true) → within o (length log) ≡ true → rising 1 log ≡ true
     → ((x : Slot) → List·Memᴰ x (receiptsOf S o log) → List·Memᴰ x xs) → Settled n xs log (committedBy o log)
 unfolding committedBy commitSigners within receiptsOf
-settled-by n S none log xs some-done q w sub = absurd (some-done refl)
-settled-by n S (some c) log xs some-done q w sub =
+settled-by n S none log xs some-done q w rises sub = absurd (some-done refl)
+settled-by n S (some c) log xs some-done q w rises sub =
     let w1 = all-cons _ _ w in
     record {
       index = c .index;
@@ -140,16 +143,17 @@ settled-by n S (some c) log xs some-done q w sub =
       records = refl;
       above = ltb-true 0 _ (w1 .0);
       within = leb-true _ _ (all-cons _ _ (w1 .1) .0);
+      reach = take-last-le (c .index) log rises;
       quorum = q (c .signers) (List·Memᴰ·head refl);
       receipts = λ k p h e. among _ xs k _ sub (signed-by S _ _ _ k (listed _ k p h e));
     }
 
 pub settled : (form : Form) (n S : ℕ) (v : View) → Sound form n v → (committed v ≡ [] → ⊥) → Settled n (slots S v) (v .log) (committed v)
-unfolding committed slots masks
+unfolding committed slots masks ordered
 settled form n S v sound some-done =
     settled-by n S (v .commit) (v .log) (slots S v) some-done
     (λ mask m. every-mem (quorate n) (masks v) (sound .quorums) mask (Memᴰ·append-right (map (λ c. c .signers) (v .leaders)) m))
-    (sound .commit)
+    (sound .commit) (sound .order)
     (λ x m. Memᴰ·append-right (flatMap (votesOf S) (leads v) ++ map (stampOf S) (leads v)) m)
 
 -- ---- a quorum
