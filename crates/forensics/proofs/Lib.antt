@@ -3,3 +3,4 @@ pub mod Agree
 pub mod Blame
 pub mod Rows
 pub mod Fair
+pub mod Naming
