@@ -2,7 +2,7 @@
 -- taken apart field by field, since each field has its width.
 -- Assumes nothing.
 use mathlib.Core.Path.{_≡_, refl, sym, ap, ap₂, _∙_}
-use mathlib.Core.List.{List, [], _∷_, _++_, flatMap, List·Memᴰ, List·Memᴰ·head, List·Memᴰ·tail}
+use mathlib.Core.List.{List, [], _∷_, _++_, flatMap, List·Memᴰ·head, List·Memᴰ·tail}
 use Prim.Native.Nat.{ℕ, suc, _+_}
 use native.Mathlib.Nat.{suc-inj}
 use native.Mathlib.Omega.{arith}
@@ -12,7 +12,7 @@ use Rattle.words.specs.BigEndian.{be}
 use Rattle.words.proofs.Laws.{length-be, be-injective}
 use Rattle.sha256.specs.Sha256.{sha256, bytesOf, wordsOf}
 use Rattle.chain.specs.Log.{Form, Record, chainString, pointerFrom, pointer, chainFrom, chainStrings}
-use Rattle.chain.specs.Fits.{RecordFits, LogFits, empty, more, Apart}
+use Rattle.chain.specs.Fits.{RecordFits, LogFits, more, Apart}
 
 -- ---- fields of a known width
 

@@ -1,6 +1,6 @@
 -- Records, their chain and its pointers (document 01, "Chain and statements"), over the term's width.
 use mathlib.Core.List.{List, [], _∷_, _++_}
-use Prim.Native.Nat.{ℕ, zero, suc, _+_}
+use Prim.Native.Nat.{ℕ, suc}
 use lib.ListN.{replicate}
 use Rattle.words.specs.BigEndian.{be}
 use Rattle.sha256.specs.Sha256.{sha256}

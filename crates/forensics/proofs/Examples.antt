@@ -2,18 +2,16 @@
 -- matter here and are left empty.
 -- Assumes nothing.
 use mathlib.Core.Path.{_≡_, refl}
-use mathlib.Core.Bool.{Bool, true, false}
-use mathlib.Core.List.{List, [], _∷_, _++_, flatMap, map}
+use mathlib.Core.List.{List, [], _∷_, flatMap, map}
 use mathlib.Core.Option.{Option, some, none}
 use Prim.Native.Nat.{ℕ}
-use lib.ListN.{length, take, drop, replicate}
+use lib.ListN.{replicate}
 use Rattle.words.specs.BigEndian.{same}
 use Rattle.roster.specs.Masks.{boardsFrom, boardsOf}
 use Rattle.chain.specs.Log.{Record, termFrom, lastTerm}
-use Rattle.chain.specs.Claim.{Ballot}
 use Rattle.replica.specs.Ends.{staler}
 use Rattle.replica.specs.Charges.{Charge, charge, clash, twoVotes, twoStamps, staleVote, agree, sameRecord}
-use Rattle.submission.specs.View.{run, runsFrom, runs, Certificate, Commit, View, leadsOf, leads, committedBy, committed, slot, certified, votesOf, stampOf, receiptsOf, slots}
+use Rattle.submission.specs.View.{run, runsFrom, runs, Certificate, View, leadsOf, leads, committedBy, committed, slot, certified, votesOf, stampOf, receiptsOf, slots}
 use Rattle.forensics.specs.Findings.{differAt, fork, says, charges, sooner, lower, lowest, rowsFrom, bit, maskOf, Findings, findings}
 
 -- a record of a term, with one byte of its payload digest

@@ -9,7 +9,7 @@ use Prim.Native.Nat.{ℕ}
 use lib.ListN.{replicate}
 use Rattle.words.specs.BigEndian.{same}
 use Rattle.refusal.specs.Checks.{all}
-use Rattle.chain.specs.Log.{Form, version1, Record, termFrom, lastTerm}
+use Rattle.chain.specs.Log.{version1, Record, termFrom, lastTerm}
 use Rattle.chain.specs.Claim.{Ballot}
 use Rattle.replica.specs.Ends.{rising, staler}
 use Rattle.replica.specs.Replica.{State, Act, raise, vote, run, add, stamp, receipt, decline, restart, fitsTerm, fitsIndex, fitsRecords, oneCandidate, noStamp, noStaler, rules, allowed}

@@ -2,18 +2,17 @@
 -- every allowed act keeps that, and what it signs is free of charges against what was kept.
 -- Assumes nothing.
 use mathlib.Core.Path.{_≡_, refl, sym, ap, subst, _∙_}
-use mathlib.Core.Bool.{Bool, true, false, not, cond, false≢true, true≢false}
+use mathlib.Core.Bool.{Bool, true, false, not, cond}
 use mathlib.Core.List.{List, [], _∷_, _++_, append-assoc, append-nil, List·Memᴰ, List·Memᴰ·not-nil, List·Memᴰ·eq-of-singleton, List·Memᴰ·append-cases}
 use mathlib.Core.Option.{Option, some, none}
 use mathlib.Core.Logic.{_⊎_, inl, inr, ⊎-elim}
-use Prim.Native.Nat.{ℕ, zero, suc, _+_, _≤_, _<_}
+use Prim.Native.Nat.{ℕ, _≤_, _<_}
 use native.Mathlib.Nat.{le-refl, le-trans}
 use native.Mathlib.Omega.{arith}
-use borrow.Author.Tests.{ltb-true, ltb-false, eqb-true, eqb-false, leb-true, eq-eqb, ne-eqb, le-ltb, lt-ltb}
-use lib.Dec.{eqb, ltb, leb}
+use borrow.Author.Tests.{ltb-true, eqb-true, eqb-false, leb-true, eq-eqb}
+use lib.Dec.{eqb, ltb}
 use lib.ListN.{length, take, length-append}
 use lib.Seq.{length-take-le}
-use Rattle.words.specs.BigEndian.{same}
 use Rattle.words.proofs.Same.{true-same}
 use Rattle.refusal.proofs.Laws.{look, cond-true, not-true, all-cons}
 use Rattle.chain.specs.Log.{Form, Record, termFrom, lastTerm}

@@ -1,15 +1,15 @@
 -- The order of log ends as facts about numbers: an end that is not staler than another.
 -- Assumes nothing.
-use mathlib.Core.Path.{_≡_, refl, sym, ap, _∙_}
-use mathlib.Core.Bool.{Bool, true, false, not, cond, false≢true, true≢false}
+use mathlib.Core.Path.{_≡_, refl, sym}
+use mathlib.Core.Bool.{true, false, cond}
 use mathlib.Core.List.{List, [], _∷_, _++_}
 use mathlib.Core.Logic.{_⊎_, inl, inr}
-use Prim.Native.Nat.{ℕ, zero, suc, _+_, _≤_, _<_, zero-le}
+use Prim.Native.Nat.{ℕ, zero, suc, _≤_, _<_, zero-le}
 use native.Mathlib.Nat.{le-refl}
 use native.Mathlib.Omega.{arith}
-use borrow.Author.Tests.{ltb-false, eqb-true, eqb-false, leb-true, eq-eqb, ne-eqb, le-ltb, le-leb}
+use borrow.Author.Tests.{ltb-false, eqb-true, eqb-false, leb-true, le-ltb, le-leb}
 use lib.Dec.{eqb, ltb, leb}
-use lib.ListN.{length, take}
+use lib.ListN.{take}
 use Rattle.refusal.proofs.Laws.{look, cond-true}
 use Rattle.chain.specs.Log.{Record, termFrom, lastTerm}
 use Rattle.replica.specs.Ends.{rising, staler}

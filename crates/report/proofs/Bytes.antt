@@ -1,21 +1,19 @@
 -- The report's bytes: where the named boards stand in them, and which answer lies behind the number.
 -- Assumes nothing.
-use mathlib.Core.Path.{_≡_, refl, sym, ap, _∙_}
-use mathlib.Core.Bool.{Bool, true, false, cond}
-use mathlib.Core.List.{List, [], _∷_, _++_}
+use mathlib.Core.Path.{_≡_}
+use mathlib.Core.Bool.{true, false}
+use mathlib.Core.List.{List, _++_}
 use mathlib.Core.Logic.{_⊎_, inl, inr}
 use Prim.Native.Nat.{ℕ, _<_, _^_}
-use native.Mathlib.Omega.{arith}
 use borrow.Author.Tests.{eqb-true, eqb-false}
-use lib.Dec.{eqb, ltb}
-use lib.ListN.{length, drop}
+use lib.Dec.{eqb}
 use Rattle.words.specs.BigEndian.{number, be, numberAt}
 use Rattle.words.proofs.Laws.{number-be}
 use Rattle.refusal.proofs.Laws.{look}
 use Rattle.roster.specs.Roster.{rosterNumber, signatureSize}
 use Rattle.submission.specs.Validate.{validate, viewOf}
-use Rattle.forensics.specs.Findings.{Findings, findings, maskOf, bit}
-use Rattle.report.specs.Report.{Answer, refused, answer, rowBytes, reportBytes, reportSize, short, auditNumber, reportAfter, namedIn}
+use Rattle.forensics.specs.Findings.{findings, maskOf}
+use Rattle.report.specs.Report.{Answer, refused, answer, reportBytes, namedIn}
 
 -- ---- the named boards
 

@@ -1,8 +1,8 @@
 -- Worked examples of the whole answer: the number, every byte of the report and what is kept, for accepted and for refused input.
 -- Assumes nothing.
 use mathlib.Core.Path.{_≡_, refl}
-use mathlib.Core.List.{List, [], _∷_, _++_, flatMap, map}
-use mathlib.Core.Option.{Option, some, none}
+use mathlib.Core.List.{List, [], _∷_, _++_, flatMap}
+use mathlib.Core.Option.{some, none}
 use Prim.Native.Nat.{ℕ}
 use lib.ListN.{replicate, drop}
 use Rattle.words.specs.BigEndian.{number, be, numberAt, same}
@@ -13,7 +13,6 @@ use Rattle.lms.specs.Check.{signatureLength, pathAt, oneTimeBytes}
 use Rattle.roster.specs.Roster.{cluster, boards, keyOf, treeType, oneTimeType, levels, signatureSize, everyBoard, sized, typed, single, rosterNumber}
 use Rattle.chain.specs.Log.{version1}
 use Rattle.replica.specs.Ends.{rising}
-use Rattle.replica.specs.Charges.{Charge}
 use Rattle.submission.specs.Trailer.{trailerAt, name, word, recordCount, leaderCount, distance, version}
 use Rattle.submission.specs.View.{runs, leads, leadsOf, committed, committedBy, slots, receiptsOf}
 use Rattle.submission.specs.Reading.{view, laidOut, recordSize, recordsOf, certificates, certificatesEnd, stampsAt, leadersAt, stampsFrom, commitFrom, commitOf}

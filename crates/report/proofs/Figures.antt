@@ -1,10 +1,7 @@
 -- Document 01's marked figures, by computation, as one statement over their list.
 -- Assumes nothing.
-use mathlib.Core.Path.{_≡_, refl}
-use mathlib.Core.List.{List, [], _∷_, _++_, flatMap, map}
-use mathlib.Core.Option.{Option, some, none}
-use lib.Count.{ones, onesIn}
-use lib.ListN.{replicate}
+use mathlib.Core.Path.{refl}
+use mathlib.Core.List.{List, [], _∷_, _++_, flatMap}
 use Rattle.words.specs.BigEndian.{number, be, numberAt, same}
 use Rattle.refusal.specs.Checks.{all, every, check, refusal}
 use Rattle.lm_ots.specs.Parameters.{row}
@@ -13,13 +10,13 @@ use Rattle.lms.specs.Check.{signatureLength, pathAt, oneTimeBytes}
 use Rattle.lms.specs.Figures.{Figure, figure, AllHold, signatureFigures}
 use Rattle.lms.proofs.Figures.{signature-figures}
 use Rattle.roster.specs.Roster.{cluster, boards, quorum, keyOf, treeType, oneTimeType, levels, signatureSize, everyBoard, sized, typed, single, rosterNumber}
-use Rattle.chain.specs.Log.{version1, Record}
+use Rattle.chain.specs.Log.{version1}
 use Rattle.replica.specs.Ends.{rising, staler}
-use Rattle.replica.specs.Charges.{Charge, charge, clash, staleVote}
+use Rattle.replica.specs.Charges.{charge, clash, staleVote}
 use Rattle.submission.specs.Trailer.{trailerAt, name, word, recordCount, leaderCount, distance, version}
 use Rattle.submission.specs.View.{runs, leads, leadsOf, slots, receiptsOf}
 use Rattle.submission.specs.Reading.{view, laidOut, recordSize, recordsOf, certificates, certificatesEnd, stampsAt, leadersAt, stampsFrom, commitFrom, commitOf}
-use Rattle.submission.specs.Validate.{sized as sizedSubmission, versioned, named, counted, quorate, commitSigners, masks, ordered, oneEach, within, formOf, viewOf, slotsOf, validate}
+use Rattle.submission.specs.Validate.{sized as sizedSubmission, versioned, named, counted, commitSigners, masks, ordered, oneEach, within, formOf, viewOf, slotsOf, validate}
 use Rattle.forensics.specs.Findings.{lowest, lower}
 use Rattle.report.specs.Figures.{sampleKey, sampleRoster, sampleSubmission, ruleOf, receiptThenVote, auditFigures, markedFigures}
 

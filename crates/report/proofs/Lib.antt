@@ -1,4 +1,5 @@
 mod Bytes
 mod Examples
+mod Fairness
 pub mod Figures
-pub mod Fairness
+pub mod Demand3

@@ -1,8 +1,8 @@
 -- Demand 3, on the number and the bytes of a report: naming and fairness.
 use mathlib.Core.Path.{_≡_}
 use mathlib.Core.Bool.{true, false}
-use mathlib.Core.List.{List, [], _∷_, _++_, map, flatMap, List·Memᴰ}
-use mathlib.Core.Option.{Option, some, none}
+use mathlib.Core.List.{List, _++_, map, flatMap, List·Memᴰ}
+use mathlib.Core.Option.{some}
 use Prim.Native.Nat.{ℕ, _≤_, _<_}
 use lib.ListN.{getElem?}
 use Rattle.lms.specs.Check.{good}
@@ -27,10 +27,11 @@ pub record Differ (l m : List Record) : Type 0 where
   pub in-other : getElem? m index ≡ some other
   pub differ : one ≡ other → ⊥
 
-module _ (roster s₁ s₂ : List ℕ) (number : ℕ) (report : List ℕ) where
+module _ (roster s₁ s₂ : List ℕ) where
   -- any two accepted submissions that differ at an index committed in both get at least one board named
-  unfoldable pub Naming : Type 0
-  Naming = number ≡ 0 → Differ (committed (viewOf roster s₁)) (committed (viewOf roster s₂)) → namedIn report ≡ 0 → ⊥
+  unfoldable pub Naming : ℕ → List ℕ → Type 0
+  Naming number report =
+      number ≡ 0 → Differ (committed (viewOf roster s₁)) (committed (viewOf roster s₂)) → namedIn report ≡ 0 → ⊥
 
   -- ---- fairness
 
@@ -49,8 +50,8 @@ module _ (roster s₁ s₂ : List ℕ) (number : ℕ) (report : List ℕ) where
 
   -- a board whose acts all kept the board rules is never named, whatever others did or sent: one claim over its whole list of acts. With
   -- number 1 there is no report
-  unfoldable pub Fairness : Type 0
-  Fairness =
+  unfoldable pub Fairness : ℕ → List ℕ → Type 0
+  Fairness number report =
       (number ≡ 1 → ⊥) → (k : ℕ) → 0 < k → k ≤ boards roster
       → (acts : List Act) → keeps (formOf roster) (boards roster) first acts ≡ true
       → OwnSignatures k acts → Apart (strings acts) (strings acts) → signer (namedIn report) k ≡ false

@@ -1,6 +1,6 @@
 -- The report (document 01, "The report" and "What stops an audit"): the number, and every byte of the buffer afterwards.
 use mathlib.Core.Bool.{Bool, cond}
-use mathlib.Core.List.{List, [], _∷_, _++_, flatMap}
+use mathlib.Core.List.{List, _++_, flatMap}
 use mathlib.Core.Option.{Option, some, none}
 use Prim.Native.Nat.{ℕ}
 use lib.Dec.{eqb, ltb}

@@ -4,7 +4,7 @@ use mathlib.Core.Path.{_≡_, refl}
 use mathlib.Core.Bool.{true, false}
 use mathlib.Core.List.{List, [], _∷_, _++_, flatMap}
 use Prim.Native.Nat.{ℕ}
-use lib.ListN.{length, take, replicate}
+use lib.ListN.{take, replicate}
 use Rattle.words.specs.BigEndian.{number, be, numberAt, same}
 use Rattle.refusal.specs.Checks.{all, check, refusal}
 use Rattle.roster.specs.Roster.{boards, keyOf, treeType, oneTimeType, everyBoard, sized, typed, single, rosterNumber}

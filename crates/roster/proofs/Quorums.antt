@@ -1,7 +1,7 @@
 -- Two quorums' masks share a bit: the ones of two masks are those of either and of both, and two quorums have more than n.
 -- Assumes nothing.
-use mathlib.Core.Path.{_≡_, refl, sym, ap, _∙_}
-use mathlib.Core.Bool.{Bool, true, false}
+use mathlib.Core.Path.{_≡_, refl, ap, _∙_}
+use mathlib.Core.Bool.{true, false}
 use Prim.Native.Nat.{ℕ, zero, suc, _+_, _-_, _*_, _/_, _%_, _^_, _≤_, _<_, min, max}
 use native.Mathlib.Nat.{div-one, div-div-eq-div-mul, div-lt-iff-lt-mul, pow-suc, pow-succ'}
 use native.Mathlib.Omega.{arith}

@@ -1,19 +1,18 @@
 -- What an accepted submission has: each check by its name, and a stamp for each leader certificate.
 -- Assumes nothing.
 use mathlib.Core.Path.{_≡_, refl, sym, ap, _∙_}
-use mathlib.Core.Bool.{Bool, true, false}
-use mathlib.Core.List.{List, [], _∷_, _++_}
-use Prim.Native.Nat.{ℕ, zero, suc, _<_}
+use mathlib.Core.Bool.{true}
+use mathlib.Core.List.{List}
+use Prim.Native.Nat.{ℕ, zero, suc}
 use lib.Dec.{lit<}
 use lib.ListN.{length}
-use Rattle.refusal.specs.Checks.{all, every, check, refusal}
+use Rattle.refusal.specs.Checks.{every}
 use Rattle.refusal.proofs.Laws.{accepted}
-use Rattle.roster.specs.Roster.{cluster, boards, signatureSize}
+use Rattle.roster.specs.Roster.{boards, signatureSize}
 use Rattle.chain.specs.Log.{Form}
-use Rattle.submission.specs.Trailer.{leaderCount}
-use Rattle.submission.specs.View.{View, leads, slots}
-use Rattle.submission.specs.Reading.{view, laidOut, certificates, certificateEnd, stampsAt, stampsFrom, leadersAt}
-use Rattle.submission.specs.Validate.{sized, versioned, named, counted, quorate, masks, ordered, oneEach, leading, within, genuine, formOf, viewOf, slotsOf, validate}
+use Rattle.submission.specs.View.{View, leads}
+use Rattle.submission.specs.Reading.{view, laidOut, certificates, certificateEnd, stampsAt}
+use Rattle.submission.specs.Validate.{sized, counted, quorate, masks, ordered, oneEach, leading, within, genuine, formOf, viewOf, slotsOf, validate}
 
 -- ---- what the proofs about logs and certificates need of a view
 

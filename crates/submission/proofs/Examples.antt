@@ -2,11 +2,11 @@
 -- Assumes nothing.
 use mathlib.Core.Path.{_≡_, refl}
 use mathlib.Core.Bool.{Bool, true, false}
-use mathlib.Core.List.{List, [], _∷_, _++_, flatMap, map}
+use mathlib.Core.List.{List, [], _∷_, _++_, flatMap}
 use mathlib.Core.Option.{Option, some, none}
 use Prim.Native.Nat.{ℕ}
 use lib.Count.{ones, onesIn}
-use lib.ListN.{length, take, drop, replicate}
+use lib.ListN.{length, take, replicate}
 use Rattle.words.specs.BigEndian.{number, be, numberAt, same}
 use Rattle.words.proofs.Same.{true-same}
 use Rattle.refusal.specs.Checks.{all, every}
@@ -14,10 +14,10 @@ use Rattle.lms.specs.Check.{good}
 use Rattle.roster.specs.Roster.{quorum, keyOf}
 use Rattle.roster.specs.Masks.{signer, boardsFrom, boardsOf}
 use Rattle.chain.specs.Log.{Form, version1, Record, pointer, pointerFrom, termFrom, lastTerm}
-use Rattle.chain.specs.Claim.{Ballot, Claim, stamped, received, voted}
+use Rattle.chain.specs.Claim.{Ballot, stamped, received, voted}
 use Rattle.replica.specs.Ends.{rising}
 use Rattle.submission.specs.Trailer.{trailerAt, name, word, recordCount, leaderCount, distance, version}
-use Rattle.submission.specs.View.{Run, run, runsFrom, runs, Certificate, Commit, View, Lead, leadsOf, leads, committedBy, committed, Slot, slot, certified, votesOf, stampOf, receiptsOf, slots}
+use Rattle.submission.specs.View.{run, runsFrom, runs, Certificate, Commit, View, leadsOf, leads, slot, certified, votesOf, stampOf, receiptsOf, slots}
 use Rattle.submission.specs.Reading.{view, laidOut, recordSize, ballotSize, recordsOf, ballotAt, signersAt, certificateAt, certificateEnd, certificates, certificatesEnd, stampsAt, commitAt, commitEnd, leadersAt, stampsFrom, commitFrom, commitOf}
 use Rattle.submission.specs.Validate.{sized, versioned, named, counted, quorate, commitSigners, masks, ordered, oneEach, leading, within, genuine}
 

@@ -1,6 +1,6 @@
 -- The checks on a submission (document 01, "What stops an audit", 5 to 15), each beside the paper's words, and the number of the first that
 -- is not met.
-use mathlib.Core.Bool.{Bool, true, cond}
+use mathlib.Core.Bool.{Bool, true}
 use mathlib.Core.List.{List, [], _∷_, _++_, map}
 use mathlib.Core.Option.{Option, some, none}
 use Prim.Native.Nat.{ℕ, _^_}
