@@ -3,19 +3,18 @@
 -- Assumes nothing.
 use mathlib.Core.Path.{_≡_, refl, sym, ap, subst, _∙_}
 use mathlib.Core.Bool.{true}
-use mathlib.Core.List.{List, [], _∷_, _++_, map, flatMap, List·Memᴰ, List·Memᴰ·head, List·Memᴰ·tail, List·Memᴰ·not-nil, List·Memᴰ·cases-cons, List·Memᴰ·eq-of-singleton, List·Memᴰ·append-cases, Memᴰ·of-map}
+use mathlib.Core.List.{List, [], _∷_, _++_, map, flatMap, List·Memᴰ, List·Memᴰ·head, List·Memᴰ·tail, List·Memᴰ·not-nil, List·Memᴰ·cases-cons, List·Memᴰ·append-cases, Memᴰ·of-map}
 use mathlib.Core.Logic.{⊎-elim}
 use mathlib.Core.Option.{Option, some, none}
 use Prim.Native.Nat.{ℕ, zero, suc, _+_, _*_, _^_, _≤_, _<_}
 use native.Mathlib.Nat.{mul-suc}
 use native.Mathlib.Omega.{arith}
 use borrow.Author.Tests.{eqb-true, leb-true}
-use lib.Dec.{eqb}
 use lib.ListN.{length, take, drop, replicate, length-take, length-drop}
-use lib.Seq.{append-snoc, take-append-seam, length-take-le}
+use lib.Seq.{length-take-le}
 use Rattle.words.specs.BigEndian.{Bytes, numberAt}
 use Rattle.words.proofs.Laws.{numberAt-lt, bytes-drop}
-use Rattle.words.proofs.Members.{joined-mem, mem-cond}
+use Rattle.words.proofs.Members.{joined-mem}
 use Rattle.words.proofs.Same.{same-true}
 use Rattle.refusal.specs.Checks.{every}
 use Rattle.refusal.proofs.Laws.{all-cons, every-mem}
@@ -27,10 +26,11 @@ use Rattle.chain.specs.Fits.{LogFits, empty, more, PlaceFits, BallotFits, Claim
 use Rattle.chain.proofs.Prefix.{strings-take, fits-take, last-fits}
 use Rattle.chain.proofs.Said.{pointer-length}
 use Rattle.submission.specs.Trailer.{trailerAt, recordCount, distance}
-use Rattle.submission.specs.View.{Run, run, runsFrom, runs, Certificate, Commit, Lead, leadsOf, leads, Slot, slot, certified, votesOf, stampOf, receiptsOf, slots}
+use Rattle.submission.specs.View.{Run, runs, Certificate, Commit, Lead, leadsOf, leads, Slot, slot, certified, votesOf, stampOf, receiptsOf, slots}
 use Rattle.submission.specs.Reading.{recordSize, recordsOf, ballotAt, certificateAt, certificateEnd, certificates, leadersAt, view, laidOut}
 use Rattle.submission.specs.Validate.{recordMost, counted, leading, formOf, viewOf, slotsOf}
 use Rattle.submission.proofs.Accepted.{Accepted}
+use Rattle.submission.proofs.Runs.{run-begins}
 
 -- ---- the records
 
@@ -96,31 +96,6 @@ lead-parts (c ∷ cs) (r ∷ rs) (g ∷ gs) l m =
     (λ (h : List·Memᴰ l (leadsOf cs rs gs)). let p = lead-parts cs rs gs l h in (List·Memᴰ·tail (p .0), List·Memᴰ·tail (p .1)))
     (List·Memᴰ·cases-cons m)
 
--- ---- the terms of a log
-
-runs-from : (before upto log : List Record) (r : Run) → List·Memᴰ r (runsFrom before upto log)
-    → (rest : List Record) × (r .upto ++ rest ≡ upto ++ log)
-unfolding runsFrom run
-runs-from before upto [] r m = ([], ap (λ (x : Run). x .upto ++ []) (List·Memᴰ·eq-of-singleton m))
-runs-from before upto (q ∷ log) r m =
-    let longer = upto ++ (q ∷ []) in
-    let Begins : Type 0 = (rest : List Record) × (r .upto ++ rest ≡ upto ++ (q ∷ log)) in
-    let later : (b : List Record) → List·Memᴰ r (runsFrom b longer log) → Begins =
-    λ b h. let p = runs-from b longer log r h in (p .0, p .1 ∙ append-snoc upto q log) in
-    ⊎-elim
-    (λ h. later before (h .1))
-    (λ h.
-    ⊎-elim (λ (e : r ≡ run before upto). (q ∷ log, ap (λ (x : Run). x .upto ++ (q ∷ log)) e)) (λ k. later upto k) (List·Memᴰ·cases-cons (h .1)))
-    (mem-cond (eqb (q .term) (lastTerm upto)) (runsFrom before longer log) (run before upto ∷ runsFrom upto longer log) r m)
-
--- the log up to a term's last record is a beginning of the log
-run-begins : (log : List Record) (r : Run) → List·Memᴰ r (runs log) → (i : ℕ) × (r .upto ≡ take i log)
-unfolding runs
-run-begins [] r m = absurd (List·Memᴰ·not-nil m)
-run-begins (q ∷ log) r m =
-    let p = runs-from [] (q ∷ []) log r m in
-    (length (r .upto), sym (take-append-seam (r .upto) (p .0)) ∙ ap (take (length (r .upto))) (p .1))
-
 -- ---- what each signature stands on
 
 -- a claim that fits its fields and speaks of a beginning of the log
@@ -158,8 +133,8 @@ module _ (form : Form) (S : ℕ) where
     stamps-speak : (l : Lead) → List·Memᴰ (l .term) (runs log) → SpeaksOf form log (stampOf S l .claim)
     unfolding stampOf slot
     stamps-speak l m =
-        let r = run-begins log (l .term) m in
-        subst (λ (u : List Record). SpeaksOf form log (stamped (lastTerm u) u)) (sym (r .1)) (stamp-speaks (r .0))
+        subst (λ (u : List Record). SpeaksOf form log (stamped (lastTerm u) u)) (run-begins log (l .term) m)
+        (stamp-speaks (length (l .term .upto)))
 
     votes-speak : (l : Lead) → BallotFits form (l .certificate .ballot) → (x : Slot) → List·Memᴰ x (votesOf S l) → SpeaksOf form log (x .claim)
     unfolding votesOf stringsOf
