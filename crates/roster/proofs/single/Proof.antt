@@ -1,0 +1,62 @@
+-- One board a turn: the boards that are left give what all before k give.
+-- Assumes nothing.
+use mathlib.Core.Path.{_≡_, refl, sym, ap, _∙_}
+use mathlib.Core.Bool.{Bool, not}
+use mathlib.Core.List.{List}
+use Prim.Native.Nat.{ℕ, _≤_, _-_}
+use native.Mathlib.Omega.{arith}
+use Rattle.words.specs.BigEndian.{same}
+use Rattle.roster.specs.Roster.{keyOf, everyBoard, single}
+use Rattle.roster.proofs.Answers.{every-step, every-stop, every-none}
+use Rattle.roster.proofs.single.Statement.{statement}
+use Rattle.roster.proofs.single.Tie as tie
+
+-- board j's key is not k's
+abbrev other : List ℕ → ℕ → ℕ → Bool
+other roster k j = not (same (keyOf roster j) (keyOf roster k))
+
+abbrev Inv-loop : tie.InvT-loop
+Inv-loop roster k left₀ left =
+    (left ≤ k - 1) × (everyBoard left (other roster k) ≡ single roster k)
+
+abbrev μ-loop : tie.MeasureT-loop
+μ-loop roster k left₀ left = left
+
+sub-left : tie.Need-sub-left Inv-loop μ-loop
+sub-left c = omega arith
+
+loop-holds : tie.Need-loop-holds Inv-loop μ-loop
+unfolding single
+loop-holds c = (omega arith, refl)
+
+same-key-requires : tie.Need-same-key-requires Inv-loop μ-loop
+same-key-requires c κs = (omega arith, omega arith, omega arith)
+
+returns : tie.Need-returns Inv-loop μ-loop
+returns c =
+    let l = c .before .before .before .loop in
+    let a = c .before .before .before .before .before .args in
+    let e = sym (c .before .same-key .ensures) ∙ c .if1 .taken in
+    sym (every-stop (other (a .roster .now) (a .k)) (l .left) (omega arith) (ap not e)) ∙ l .inv .1
+
+sub-left-2 : tie.Need-sub-left-2 Inv-loop μ-loop
+sub-left-2 c = omega arith
+
+loop-less : tie.Need-loop-less Inv-loop μ-loop
+loop-less c = omega arith
+
+loop-again : tie.Need-loop-again Inv-loop μ-loop
+loop-again c =
+    let l = c .before .before .before .loop in
+    let a = c .before .before .before .before .before .args in
+    let e = sym (c .before .same-key .ensures) ∙ c .if1 .left in
+    (omega arith, every-step (other (a .roster .now) (a .k)) (l .left) (omega arith) (ap not e) ∙ l .inv .1)
+
+returns-2 : tie.Need-returns-2 Inv-loop μ-loop
+returns-2 c =
+    let l = c .before .loop in
+    let a = c .before .before .before .args in
+    sym (every-none (other (a .roster .now) (a .k)) (l .left) (omega arith)) ∙ l .inv .1
+
+pub single-spec : {M : Type 1} → statement M
+single-spec = tie.close (tie.spec Inv-loop μ-loop sub-left loop-holds same-key-requires returns sub-left-2 loop-less loop-again returns-2)
