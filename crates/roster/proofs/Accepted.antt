@@ -1,26 +1,25 @@
 -- What an accepted roster has: 3 to 9 boards, each with its key inside, and a listed height, which gives S.
 -- Assumes nothing.
-use mathlib.Core.Path.{_≡_, refl, ap, _∙_}
+use mathlib.Core.Path.{_≡_, refl, _∙_}
 use mathlib.Core.Bool.{Bool, true, false, cond}
-use mathlib.Core.List.{List, [], _∷_}
+use mathlib.Core.List.{List}
 use Prim.Native.Nat.{ℕ, zero, suc, _+_, _-_, _*_, _≤_, _<_}
 use native.Mathlib.Omega.{arith}
 use borrow.Author.Tests.{leb-true, leb-false, eqb-true}
 use mathlib.Core.Logic.{⊎-elim}
 use lib.Dec.{eqb, leb, lit<, lit≤}
 use lib.ListN.{length}
-use Rattle.refusal.specs.Checks.{all}
 use Rattle.refusal.proofs.Laws.{look, cond-true, all-cons, accepted}
 use Rattle.lm_ots.specs.Parameters.{row}
 use Rattle.lms.specs.declared.Height.{Height}
-use Rattle.lms.specs.declared.Height.the-variants.{Levels, Unknown}
+use Rattle.lms.specs.declared.Height.the-variants.{Levels}
 use Rattle.lms.specs.Tree.{height}
 use Rattle.lms.specs.Check.{keySize, oneTimeBytes, pathAt, signatureLength}
-use Rattle.roster.specs.Roster.{headSize, boards, keyOf, treeType, oneTimeType, levels, signatureSize, everyBoard, sized, typed, single, rosterNumber}
+use Rattle.roster.specs.Roster.{headSize, boards, keyOf, treeType, oneTimeType, levels, signatureSize, everyBoard, sized, typed, rosterNumber}
 
 -- ---- every board
 
-pub every-each : (n : ℕ) (test : ℕ → Bool) → everyBoard n test ≡ true → (k : ℕ) → 0 < k → k ≤ n → test k ≡ true
+every-each : (n : ℕ) (test : ℕ → Bool) → everyBoard n test ≡ true → (k : ℕ) → 0 < k → k ≤ n → test k ≡ true
 unfolding everyBoard
 every-each zero test e k low high = absurd (omega arith)
 every-each (suc n) test e k low high =
@@ -56,7 +55,7 @@ pub record Types (roster : List ℕ) (k : ℕ) : Type 0 where
   pub high : treeType (keyOf roster k) ≤ 9
   pub first : treeType (keyOf roster k) ≡ treeType (keyOf roster 1)
 
-pub typed-true : (roster : List ℕ) (k : ℕ) → typed roster k ≡ true → Types roster k
+typed-true : (roster : List ℕ) (k : ℕ) → typed roster k ≡ true → Types roster k
 unfolding typed
 typed-true roster k e =
     let one-time = all-cons _ _ e in
@@ -106,13 +105,11 @@ size-of-levels roster = refl
 -- ---- an accepted roster
 
 module _ (roster : List ℕ) (fine : rosterNumber roster ≡ 0) where
-  checked : (sized roster ≡ true) × (everyBoard (boards roster) (typed roster) ≡ true) × (everyBoard (boards roster) (single roster) ≡ true)
+  checked : (sized roster ≡ true) × (everyBoard (boards roster) (typed roster) ≡ true)
   unfolding rosterNumber
   checked =
       let c2 = accepted 2 _ _ (lit< tt) fine in
-      let c3 = accepted 3 _ _ (lit< tt) (c2 .1) in
-      let c4 = accepted 4 _ _ (lit< tt) (c3 .1) in
-      (c2 .0, c3 .0, c4 .0)
+      (c2 .0, accepted 3 _ _ (lit< tt) (c2 .1) .0)
 
   pub sizes : Sizes roster
   sizes = sized-true roster (checked .0)

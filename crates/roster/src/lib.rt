@@ -3,6 +3,7 @@ ghost use mathlib.Core.Path.{_≡_};
 ghost use Prim.Native.Nat.{_+_, _*_, _≤_, _<_};
 ghost use lib.ListN.{length};
 ghost use Rattle.words.specs.BigEndian.{same};
+ghost use Rattle.lms.specs.Tree.{height};
 ghost use Rattle.lms.specs.Check.{keySize};
 ghost use Rattle.roster.specs.Roster as paper;
 ghost use Rattle.roster.specs.Masks as masks;
@@ -11,12 +12,12 @@ use lms::Height;
 // The bytes of a cluster's name, and of name and n.
 pub const NAME_SIZE: usize = 16;
 
-pub const HEAD_SIZE: usize = 18;
+const HEAD_SIZE: usize = 18;
 
 // The boards that a roster may have.
 const BOARDS_MIN: usize = 3;
 
-pub const BOARDS_MAX: usize = 9;
+const BOARDS_MAX: usize = 9;
 
 // The types that a key may have.
 const ONE_TIME: u32 = 4;
@@ -25,7 +26,7 @@ const TREE_MIN: u32 = 5;
 
 const TREE_MAX: u32 = 9;
 
-// The bytes of a signature before its path: q and the one-time type, C and the ends of 34 chains, and the tree type.
+// The bytes of a signature before its path: q and the one-time type, C and y of 34 chains, and the tree type.
 const PATH_AT: usize = 8 + 32 * (34 + 1) + 4;
 
 // The bits of a mask.
@@ -189,11 +190,11 @@ pub fn validate(roster: &[u8]) -> u32
     0
 }
 
-// The levels of a height, 0 for an unknown one.
-fn levels(height: Height) -> usize
-    ensures { λ r. ⌜ r ≡ paper.levels height ⌝ }
+// The levels of a tree type, 0 for an unknown one.
+fn levels(number: u32) -> usize
+    ensures { λ r. ⌜ (r ≡ paper.levels (height number)) × (r ≤ 25) ⌝ }
 {
-    match height {
+    match lms::height_of(number) {
         Height::Levels(h) => h as usize,
         Height::Unknown => 0,
     }
@@ -204,5 +205,5 @@ pub fn signature_size(roster: &[u8]) -> usize
     requires { ⌜ paper.headSize + keySize ≤ length (now roster) ⌝ }
     ensures { λ r. ⌜ (r ≡ paper.signatureSize (now (roster .entry))) × (r ≤ 1932) ⌝ }
 {
-    PATH_AT + 32 * levels(lms::height_of(tree_type(roster, 1)))
+    PATH_AT + 32 * levels(tree_type(roster, 1))
 }

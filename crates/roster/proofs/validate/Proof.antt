@@ -1,11 +1,9 @@
 -- Each check that is not met ends the validation with its number.
 -- Assumes nothing.
-use mathlib.Core.Path.{_≡_, sym, ap, _∙_}
-use Prim.Native.Nat.{ℕ}
+use mathlib.Core.Path.{sym, _∙_}
 use native.Mathlib.Omega.{arith}
 use borrow.Author.Needs.{needs}
 use borrow.Author.Tests.{not-true, not-false}
-use Rattle.roster.specs.Roster.{everyBoard, typed, single}
 use Rattle.roster.proofs.Answers.{unsized, untyped, duplicate, accept}
 use Rattle.roster.proofs.Accepted.{sized-true}
 use Rattle.roster.proofs.validate.Statement.{statement}
