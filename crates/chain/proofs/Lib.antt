@@ -1,3 +1,4 @@
 pub mod Injective
 pub mod Prefix
 pub mod Said
+pub mod Statements

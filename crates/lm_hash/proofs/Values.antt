@@ -64,12 +64,6 @@ pub head-length : (leaf : Leaf) (q d : ℕ) → length (identifier leaf ++ be 4 
 unfolding be identifier
 head-length leaf q d = refl
 
--- one element more of a run of stores
-pub sets-more : (l : List ℕ) (at : ℕ) (xs : List ℕ) (i : ℕ) → i < length xs
-    → set (sets l at (take i xs)) (at + i) (getD xs i 0) ≡ sets l at (take (i + 1) xs)
-sets-more l at xs i h =
-    rw (add-one, take-suc xs i 0 h, sets-append l at (take i xs) (getD xs i 0 ∷ []), length-take-le i xs (omega arith))
-
 pub length-bytes : (v : State) → length (bytesOf v) ≡ 32
 unfolding be bytesOf wordsOf flatMap
 length-bytes v = refl

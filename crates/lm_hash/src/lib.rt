@@ -96,9 +96,5 @@ pub fn put_value(out: &mut [u8], at: usize, v: State)
     ensures { λ _. ⌜ now (out .exit) ≡ sets (now (out .entry)) at (bytesOf v) ⌝ }
 {
     let bytes = v.bytes();
-    let mut i = 0;
-    while i < 32 {
-        out[at + i] = bytes[i];
-        i += 1;
-    }
+    words::put_bytes(out, at, &bytes);
 }

@@ -10,7 +10,7 @@ use lib.Arith.{mod-mul, digits-lt, digits-div}
 use lib.Pow.{pow-add}
 use lib.Dec.{lit<}
 use lib.ListN.{length, take, drop, getD, length-take, length-drop, length-append, replicate, set}
-use lib.Seq.{drop-cons, drop-drop, drop-append-le, take-append-le, take-all, take-at, length-take-le, sets, sets-eq}
+use lib.Seq.{take-suc, drop-cons, drop-drop, drop-append-le, take-append-le, take-all, take-at, drop-at, length-take-le, sets, sets-eq}
 use Rattle.words.specs.BigEndian.{number, be, numberAt, Bytes, none, more}
 
 -- ---- powers of 256
@@ -155,9 +155,22 @@ pub sets-append : (l : List ℕ) (i : ℕ) (xs ys : List ℕ) → sets l i (xs +
 sets-append l i [] ys = rw add-zero
 sets-append l i (x ∷ xs) ys = rw (add-suc, ← suc-add) (sets-append (set l i x) (suc i) xs ys)
 
+-- one element more
+pub sets-more : (l : List ℕ) (at : ℕ) (xs : List ℕ) (i : ℕ) → i < length xs
+    → set (sets l at (take i xs)) (at + i) (getD xs i 0) ≡ sets l at (take (i + 1) xs)
+sets-more l at xs i h =
+    rw (add-one, take-suc xs i 0 h, sets-append l at (take i xs) (getD xs i 0 ∷ []), length-take-le i xs (omega arith))
+
 -- what stands before and in a run of stores
 pub take-sets : (l vs : List ℕ) (k : ℕ) → k + length vs ≤ length l → take (k + length vs) (sets l k vs) ≡ take k l ++ vs
 take-sets l vs k h =
     let long : length (take k l ++ vs) ≡ k + length vs =
     length-append (take k l) vs ∙ ap (λ (n : ℕ). n + length vs) (length-take-le k l (omega arith)) in
     rw (sets-eq vs l k h) (take-at (take k l ++ vs) (drop (k + length vs) l) (k + length vs) long)
+
+-- stores from the place k, where what was written ends, to the place j
+pub sets-next : (w e vs : List ℕ) (k j : ℕ) → length w ≡ k → k + length vs ≡ j → j ≤ length e
+    → sets (w ++ drop k e) k vs ≡ (w ++ vs) ++ drop j e
+sets-next w e vs k j hw hj h =
+    let long : k + length vs ≤ length (w ++ drop k e) = rw (length-append, length-drop, hw) (omega arith) in
+    rw (sets-eq vs (w ++ drop k e) k long, take-at w (drop k e) k hw, ← drop-drop, drop-at w (drop k e) k hw, drop-drop, hj)

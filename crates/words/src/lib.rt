@@ -48,3 +48,15 @@ pub fn put_u32(out: &mut [u8], at: usize, x: u32)
     out[at + 2] = (x / 256 % 256) as u8;
     out[at + 3] = (x % 256) as u8;
 }
+
+// Writes some bytes to a place.
+pub fn put_bytes(out: &mut [u8], at: usize, bytes: &[u8])
+    requires { ⌜ at + length (now bytes) ≤ length (now out) ⌝ }
+    ensures { λ _. ⌜ now (out .exit) ≡ sets (now (out .entry)) at (now (bytes .entry)) ⌝ }
+{
+    let mut i = 0;
+    while i < bytes.len() {
+        out[at + i] = bytes[i];
+        i += 1;
+    }
+}
