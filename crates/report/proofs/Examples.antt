@@ -15,7 +15,7 @@ use Rattle.chain.specs.Log.{version1}
 use Rattle.replica.specs.Ends.{rising}
 use Rattle.submission.specs.Trailer.{trailerAt, name, word, recordCount, leaderCount, distance, version}
 use Rattle.submission.specs.View.{runs, leads, leadsOf, committed, committedBy, slots, receiptsOf}
-use Rattle.submission.specs.Reading.{view, laidOut, recordSize, recordsOf, certificates, certificatesEnd, stampsAt, leadersAt, stampsFrom, commitFrom, commitOf}
+use Rattle.submission.specs.Reading.{view, laidOut, recordSize, recordsOf, certificates, certificatesEnd, stampsAt, leadersFrom, stampsFrom, commitFrom, commitOf}
 use Rattle.submission.specs.Validate.{sized as sizedSubmission, versioned, named, counted, commitSigners, masks, ordered, oneEach, within, formOf, viewOf, slotsOf, validate}
 use Rattle.forensics.specs.Findings.{differAt, fork, says, charges, lowest, rowsFrom, bit, maskOf, findings}
 use Rattle.report.specs.Report.{refused, answer, rowBytes, reportBytes, short, auditNumber, reportAfter}
@@ -41,7 +41,7 @@ orders : (audited three sampleSubmission sampleSubmission ≡ told 0 0) × (audi
 unfolding three audited told auditNumber reportAfter short answer refused reportBytes rowBytes sampleKey sampleRoster sampleSubmission findings fork committed committedBy
     differAt rowsFrom charges says lowest maskOf bit be number numberAt same flatMap all every check refusal cluster boards keyOf treeType oneTimeType everyBoard sized typed
     single rosterNumber version1 rising trailerAt name word recordCount leaderCount distance version runs leads leadsOf slots receiptsOf view laidOut recordSize recordsOf
-    certificates certificatesEnd stampsAt leadersAt stampsFrom commitFrom commitOf sizedSubmission versioned named counted commitSigners masks ordered oneEach within formOf
+    certificates certificatesEnd stampsAt leadersFrom stampsFrom commitFrom commitOf sizedSubmission versioned named counted commitSigners masks ordered oneEach within formOf
     viewOf slotsOf validate signatureSize signatureLength pathAt oneTimeBytes row levels height
 orders = (refl, refl, refl, refl, refl, refl, refl)
 

@@ -26,13 +26,13 @@ pub record Sound (form : Form) (n : ℕ) (v : View) : Type 0 where
 
 -- ---- as many stamps as certificates
 
-module _ (form : Form) (S : ℕ) (s : List ℕ) where
-  length-certificates : (count at : ℕ) → length (certificates form S s count at) ≡ count
+module _ (w S : ℕ) (s : List ℕ) where
+  length-certificates : (count at : ℕ) → length (certificates w S s count at) ≡ count
   unfolding certificates
   length-certificates zero at = refl
-  length-certificates (suc count) at = ap suc (length-certificates count (certificateEnd form S s at))
+  length-certificates (suc count) at = ap suc (length-certificates count (certificateEnd w S s at))
 
-  length-stamps : (count at : ℕ) → length (stampsAt form S s count at) ≡ count
+  length-stamps : (count at : ℕ) → length (stampsAt S s count at) ≡ count
   unfolding stampsAt
   length-stamps zero at = refl
   length-stamps (suc count) at = ap suc (length-stamps count _)
@@ -42,7 +42,7 @@ module _ (form : Form) (S : ℕ) (s : List ℕ) where
 pub record Accepted (roster s : List ℕ) : Type 0 where
   pub size : sized s ≡ true
   pub counts : counted s ≡ true
-  pub layout : laidOut (formOf roster) (signatureSize roster) s ≡ true
+  pub layout : laidOut (formOf roster .termBytes) (signatureSize roster) s ≡ true
   pub sound : Sound (formOf roster) (boards roster) (viewOf roster s)
   pub signatures : every (genuine (formOf roster) roster) (slotsOf roster s) ≡ true
 
@@ -69,7 +69,7 @@ validated roster s e =
             quorums = c10 .0;
             order = c11 .0;
             count = c12 .0;
-            stamped = length-stamps (formOf roster) (signatureSize roster) s _ _ ∙ sym (length-certificates (formOf roster) (signatureSize roster) s _ _);
+            stamped = length-stamps (formOf roster .termBytes) (signatureSize roster) s _ _ ∙ sym (length-certificates (formOf roster .termBytes) (signatureSize roster) s _ _);
             leaders = c13 .0;
             commit = c14 .0;
           };

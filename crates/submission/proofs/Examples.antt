@@ -18,7 +18,7 @@ use Rattle.chain.specs.Claim.{Ballot, stamped, received, voted}
 use Rattle.replica.specs.Ends.{rising}
 use Rattle.submission.specs.Trailer.{trailerAt, name, word, recordCount, leaderCount, distance, version}
 use Rattle.submission.specs.View.{run, runsFrom, runs, Certificate, Commit, View, leadsOf, leads, slot, certified, votesOf, stampOf, receiptsOf, slots}
-use Rattle.submission.specs.Reading.{view, laidOut, recordSize, ballotSize, recordsOf, ballotAt, signersAt, certificateAt, certificateEnd, certificates, certificatesEnd, stampsAt, commitAt, commitEnd, leadersAt, stampsFrom, commitFrom, commitOf}
+use Rattle.submission.specs.Reading.{view, laidOut, recordSize, ballotSize, recordsOf, ballotAt, signersAt, certificateAt, certificateEnd, certificates, certificatesEnd, stampsAt, commitAt, commitEnd, leadersFrom, stampsFrom, commitFrom, commitOf}
 use Rattle.submission.specs.Validate.{sized, versioned, named, counted, quorate, commitSigners, masks, ordered, oneEach, leading, within, genuine}
 
 form : Form
@@ -55,27 +55,27 @@ parts : List ℕ
 parts = replicate 36 1 ++ replicate 46 2 ++ be 2 3 ++ (10 ∷ 11 ∷ 12 ∷ []) ++ be 4 1 ++ be 2 5 ++ (13 ∷ 14 ∷ [])
 
 laid : List ℕ → Bool
-laid distances = laidOut form 1 (parts ++ trailer 1 1 distances 1)
+laid distances = laidOut 4 1 (parts ++ trailer 1 1 distances 1)
 
 -- 9: 95 bytes of parts; each distance one off; no commit certificate where there are bytes for one; one more signature byte than ones
 layouts : (laid (95 ∷ 59 ∷ 9 ∷ 8 ∷ []) ≡ true) × (laid (94 ∷ 59 ∷ 9 ∷ 8 ∷ []) ≡ false) × (laid (95 ∷ 60 ∷ 9 ∷ 8 ∷ []) ≡ false)
     × (laid (95 ∷ 59 ∷ 10 ∷ 8 ∷ []) ≡ false) × (laid (95 ∷ 59 ∷ 9 ∷ 7 ∷ []) ≡ false) × (laid (95 ∷ 59 ∷ 9 ∷ 0 ∷ []) ≡ false)
     × (laid (4294967295 ∷ 59 ∷ 9 ∷ 8 ∷ []) ≡ false)
-    × (laidOut form 1 (parts ++ (15 ∷ []) ++ trailer 1 1 (96 ∷ 60 ∷ 10 ∷ 9 ∷ []) 1) ≡ false)
-    × (laidOut form 1 (take 87 parts ++ trailer 1 1 (87 ∷ 51 ∷ 1 ∷ 0 ∷ []) 1) ≡ true)
-    × (laidOut form 1 none-at-all ≡ true) × (laidOut form 1 (trailer 4096 0 (0 ∷ 0 ∷ 0 ∷ 0 ∷ []) 1) ≡ false)
-unfolding laid parts form version1 none-at-all trailer laidOut leadersAt stampsFrom commitFrom commitEnd certificatesEnd certificateEnd signersAt recordSize ballotSize
+    × (laidOut 4 1 (parts ++ (15 ∷ []) ++ trailer 1 1 (96 ∷ 60 ∷ 10 ∷ 9 ∷ []) 1) ≡ false)
+    × (laidOut 4 1 (take 87 parts ++ trailer 1 1 (87 ∷ 51 ∷ 1 ∷ 0 ∷ []) 1) ≡ true)
+    × (laidOut 4 1 none-at-all ≡ true) × (laidOut 4 1 (trailer 4096 0 (0 ∷ 0 ∷ 0 ∷ 0 ∷ []) 1) ≡ false)
+unfolding laid parts form version1 none-at-all trailer laidOut leadersFrom stampsFrom commitFrom commitEnd certificatesEnd certificateEnd signersAt recordSize ballotSize
     distance recordCount leaderCount word trailerAt all numberAt number be flatMap ones onesIn
 layouts = (refl, refl, refl, refl, refl, refl, refl, refl, refl, refl, refl)
 
 -- what is read: the record, the ballot's fields, whose signature each byte is
-reading : (slots 1 (view form 1 (parts ++ trailer 1 1 (95 ∷ 59 ∷ 9 ∷ 8 ∷ []) 1))
+reading : (slots 1 (view 4 1 (parts ++ trailer 1 1 (95 ∷ 59 ∷ 9 ∷ 8 ∷ []) 1))
     ≡ slot 1 (voted (record { candidate = 514; term = 33686018; lastTerm = 33686018; lastIndex = 33686018; lastPointer = replicate 32 2 })) (10 ∷ []) ∷
     slot 2 (voted (record { candidate = 514; term = 33686018; lastTerm = 33686018; lastIndex = 33686018; lastPointer = replicate 32 2 })) (11 ∷ []) ∷
     slot 514 (stamped 16843009 (record { term = 16843009; digest = replicate 32 1 } ∷ [])) (12 ∷ []) ∷
     slot 1 (received 16843009 (record { term = 16843009; digest = replicate 32 1 } ∷ [])) (13 ∷ []) ∷
     slot 3 (received 16843009 (record { term = 16843009; digest = replicate 32 1 } ∷ [])) (14 ∷ []) ∷ [])
-unfolding slots view parts form version1 trailer leadersAt stampsFrom commitFrom commitOf commitAt certificatesEnd certificateEnd certificates certificateAt ballotAt
+unfolding slots view parts form version1 trailer leadersFrom stampsFrom commitFrom commitOf commitAt certificatesEnd certificateEnd certificates certificateAt ballotAt
     stampsAt signersAt recordSize ballotSize recordsOf leads leadsOf runs runsFrom run votesOf stampOf receiptsOf certified slot boardsOf boardsFrom lastTerm termFrom
     distance recordCount leaderCount word trailerAt numberAt number be flatMap ones onesIn
 reading = refl
@@ -95,7 +95,7 @@ logged : List Record → List Certificate → View
 logged log leaders = record { log = log; leaders = leaders; stamps = []; commit = none }
 
 -- the signers of every certificate are asked, the commit's too
-every-mask : (masks (record { log = []; leaders = record { ballot = ballotAt form 1 [] 0; signers = 5; signatures = [] } ∷ []; stamps = []; commit = some (record { index = 1; signers = 6; signatures = [] }) })
+every-mask : (masks (record { log = []; leaders = record { ballot = ballotAt 4 [] 0; signers = 5; signatures = [] } ∷ []; stamps = []; commit = some (record { index = 1; signers = 6; signatures = [] }) })
     ≡ 5 ∷ 6 ∷ [])
 unfolding masks commitSigners
 every-mask = refl

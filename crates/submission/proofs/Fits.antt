@@ -27,20 +27,20 @@ use Rattle.chain.proofs.Prefix.{strings-take, fits-take, last-fits}
 use Rattle.chain.proofs.Said.{pointer-length}
 use Rattle.submission.specs.Trailer.{trailerAt, recordCount, distance}
 use Rattle.submission.specs.View.{Run, runs, Certificate, Commit, Lead, leadsOf, leads, Slot, slot, certified, votesOf, stampOf, receiptsOf, slots}
-use Rattle.submission.specs.Reading.{recordSize, recordsOf, ballotAt, certificateAt, certificateEnd, certificates, leadersAt, view, laidOut}
+use Rattle.submission.specs.Reading.{recordSize, recordsOf, ballotAt, certificateAt, certificateEnd, certificates, leadersFrom, view, laidOut}
 use Rattle.submission.specs.Validate.{recordMost, counted, leading, formOf, viewOf, slotsOf}
 use Rattle.submission.proofs.Accepted.{Accepted}
 use Rattle.submission.proofs.Runs.{run-begins}
 
 -- ---- the records
 
-module _ (form : Form) (S : ℕ) where
-  length-records : (count : ℕ) (bytes : List ℕ) → length (recordsOf form S count bytes) ≡ count
-  unfolding recordsOf
-  length-records zero bytes = refl
-  length-records (suc count) bytes = ap suc (length-records count (drop (recordSize form S) bytes))
+pub length-records : (w count : ℕ) (bytes : List ℕ) → length (recordsOf w count bytes) ≡ count
+unfolding recordsOf
+length-records w zero bytes = refl
+length-records w (suc count) bytes = ap suc (length-records w count (drop (recordSize w) bytes))
 
-  records-fit : (count : ℕ) (bytes : List ℕ) → Bytes bytes → recordSize form S * count ≤ length bytes → LogFits form (recordsOf form S count bytes)
+module _ (form : Form) where
+  records-fit : (count : ℕ) (bytes : List ℕ) → Bytes bytes → recordSize (form .termBytes) * count ≤ length bytes → LogFits form (recordsOf (form .termBytes) count bytes)
   unfolding recordsOf recordSize numberAt
   records-fit zero bytes b h = empty
   records-fit (suc count) bytes b h =
@@ -53,7 +53,7 @@ module _ (form : Form) (S : ℕ) where
   -- ---- the leader certificates
 
   module _ (s : List ℕ) (bytes : Bytes s) where
-    ballot-fits : (at : ℕ) → length (ballotAt form S s at .lastPointer) ≡ 32 → BallotFits form (ballotAt form S s at)
+    ballot-fits : (at : ℕ) → length (ballotAt (form .termBytes) s at .lastPointer) ≡ 32 → BallotFits form (ballotAt (form .termBytes) s at)
     unfolding ballotAt
     ballot-fits at h =
         record {
@@ -64,15 +64,15 @@ module _ (form : Form) (S : ℕ) where
           lastPointer = h;
         }
 
-    certificate-fits : (count at : ℕ) (c : Certificate) → List·Memᴰ c (certificates form S s count at) → length (c .ballot .lastPointer) ≡ 32
+    certificate-fits : (S count at : ℕ) (c : Certificate) → List·Memᴰ c (certificates (form .termBytes) S s count at) → length (c .ballot .lastPointer) ≡ 32
         → BallotFits form (c .ballot)
     unfolding certificates certificateAt
-    certificate-fits zero at c m = absurd (List·Memᴰ·not-nil m)
-    certificate-fits (suc count) at c m =
+    certificate-fits S zero at c m = absurd (List·Memᴰ·not-nil m)
+    certificate-fits S (suc count) at c m =
         ⊎-elim
-        (λ (e : c ≡ certificateAt form S s at).
+        (λ (e : c ≡ certificateAt (form .termBytes) s at).
         subst (λ (d : Certificate). length (d .ballot .lastPointer) ≡ 32 → BallotFits form (d .ballot)) (sym e) (ballot-fits at))
-        (λ (h : List·Memᴰ c (certificates form S s count (certificateEnd form S s at))). certificate-fits count (certificateEnd form S s at) c h)
+        (λ (h : List·Memᴰ c (certificates (form .termBytes) S s count (certificateEnd (form .termBytes) S s at))). certificate-fits S count (certificateEnd (form .termBytes) S s at) c h)
         (List·Memᴰ·cases-cons m)
 
 -- check 13: the last pointer is a pointer
@@ -144,21 +144,21 @@ module _ (form : Form) (S : ℕ) where
         subst (SpeaksOf form log) (sym (certified-claim _ (boardsOf (l .certificate .signers)) (l .certificate .signatures) x m)) vote
 
   -- over the bytes of a submission
-  module _ (n : ℕ) (s : List ℕ) (bytes : Bytes s) (room : recordSize form S * recordCount s ≤ length s) (few : recordCount s < 256 ^ 4) where
-    slots-speak : every (leading form n) (leads (view form S s)) ≡ true
-        → (x : Slot) → List·Memᴰ x (slots S (view form S s)) → SpeaksOf form (view form S s .log) (x .claim)
+  module _ (n : ℕ) (s : List ℕ) (bytes : Bytes s) (room : recordSize (form .termBytes) * recordCount s ≤ length s) (few : recordCount s < 256 ^ 4) where
+    slots-speak : every (leading form n) (leads (view (form .termBytes) S s)) ≡ true
+        → (x : Slot) → List·Memᴰ x (slots S (view (form .termBytes) S s)) → SpeaksOf form (view (form .termBytes) S s .log) (x .claim)
     unfolding slots leads view
     slots-speak lead x m =
-        let v = view form S s in
-        let log = recordsOf form S (recordCount s) s in
-        let fits = records-fit form S (recordCount s) s bytes room in
+        let v = view (form .termBytes) S s in
+        let log = recordsOf (form .termBytes) (recordCount s) s in
+        let fits = records-fit form (recordCount s) s bytes room in
         let short : length log < 256 ^ 4 = rw length-records few in
         let parts : (l : Lead) → List·Memᴰ l (leads v) → List·Memᴰ (l .certificate) (v .leaders) × List·Memᴰ (l .term) (runs log) =
         λ l h. lead-parts (v .leaders) (runs log) (v .stamps) l h in
         let votes : List·Memᴰ x (flatMap (votesOf S) (leads v)) → SpeaksOf form log (x .claim) =
         λ h. let j = joined-mem (votesOf S) (leads v) x h in
         let pointed = lead-pointer form n (j .0) (every-mem (leading form n) (leads v) lead (j .0) (j .1)) in
-        votes-speak log fits short (j .0) (certificate-fits form S s bytes _ _ (j .0 .certificate) (parts (j .0) (j .1) .0) pointed) x (j .2) in
+        votes-speak log fits short (j .0) (certificate-fits form s bytes S _ _ (j .0 .certificate) (parts (j .0) (j .1) .0) pointed) x (j .2) in
         let stamps : List·Memᴰ x (map (stampOf S) (leads v)) → SpeaksOf form log (x .claim) =
         λ h. let j = Memᴰ·of-map (stampOf S) (leads v) h in
         subst (λ (y : Slot). SpeaksOf form log (y .claim)) (j .2) (stamps-speak log fits short (j .0) (parts (j .0) (j .1) .1)) in
@@ -170,11 +170,11 @@ module _ (form : Form) (S : ℕ) where
 -- ---- of an accepted submission
 
 -- check 9: part 1 has the bytes of its records
-records-room : (form : Form) (S : ℕ) (s : List ℕ) → laidOut form S s ≡ true → recordSize form S * recordCount s ≤ length s
-unfolding laidOut leadersAt trailerAt
+records-room : (form : Form) (S : ℕ) (s : List ℕ) → laidOut (form .termBytes) S s ≡ true → recordSize (form .termBytes) * recordCount s ≤ length s
+unfolding laidOut leadersFrom trailerAt
 records-room form S s e =
     let e2 = all-cons _ _ (all-cons _ _ e .1) in
-    omega (arith, eqb-true (leadersAt form S s + distance s 2) (trailerAt s) (e2 .0))
+    omega (arith, eqb-true (leadersFrom (form .termBytes) S s + distance s 2) (trailerAt s) (e2 .0))
 
 -- check 8: an index fits its field
 records-few : (s : List ℕ) → counted s ≡ true → recordCount s < 256 ^ 4

@@ -1,4 +1,4 @@
--- The parts of a submission and where they stand (document 01, "A submission, read from its trailer"), over the term's width and the
+-- The parts of a submission and where they stand (document 01, "A submission, read from its trailer"), over the term's width w and the
 -- signature's length S: each begins where the one before ends.
 use mathlib.Core.Bool.{Bool, true, cond}
 use mathlib.Core.List.{List, [], _∷_}
@@ -9,107 +9,104 @@ use lib.Dec.{eqb}
 use lib.ListN.{take, drop}
 use Rattle.words.specs.BigEndian.{number, numberAt}
 use Rattle.refusal.specs.Checks.{all}
-use Rattle.chain.specs.Log.{Form, Record}
+use Rattle.chain.specs.Log.{Record}
 use Rattle.chain.specs.Claim.{Ballot}
 use Rattle.submission.specs.Trailer.{trailerAt, recordCount, leaderCount, distance}
 use Rattle.submission.specs.View.{Certificate, Commit, View}
 
-module _ (form : Form) (S : ℕ) where
-  -- ---- sizes
+-- ---- part 1
 
-  -- part 1: term and payload digest
-  unfoldable pub recordSize : ℕ
-  recordSize = form .termBytes + 32
+-- a record: term and payload digest
+unfoldable pub recordSize : ℕ → ℕ
+recordSize w = w + 32
 
-  -- part 2: candidate, term, last term, last index and last pointer; a certificate's signers follow
-  unfoldable pub ballotSize : ℕ
-  ballotSize = 2 + form .termBytes + form .termBytes + 4 + 32
+unfoldable pub recordsOf : ℕ → ℕ → List ℕ → List Record
+recordsOf w zero bytes = []
+recordsOf w (suc count) bytes =
+    record { term = number (take w bytes); digest = take 32 (drop w bytes) } ∷ recordsOf w count (drop (recordSize w) bytes)
 
-  -- ---- the records
+-- ---- part 2
 
-  unfoldable pub recordsOf : ℕ → List ℕ → List Record
-  recordsOf zero bytes = []
-  recordsOf (suc count) bytes =
-      record { term = number (take (form .termBytes) bytes); digest = take 32 (drop (form .termBytes) bytes) } ∷
-      recordsOf count (drop recordSize bytes)
+-- a vote's fields: candidate, term, last term, last index, last pointer
+unfoldable pub ballotSize : ℕ → ℕ
+ballotSize w = 2 + w + w + 4 + 32
 
-  module _ (s : List ℕ) where
-    -- ---- the leader certificates
+unfoldable pub ballotAt : ℕ → List ℕ → ℕ → Ballot
+ballotAt w s at =
+    record {
+      candidate = numberAt 2 s at;
+      term = numberAt w s (at + 2);
+      lastTerm = numberAt w s (at + 2 + w);
+      lastIndex = numberAt 4 s (at + 2 + w + w);
+      lastPointer = take 32 (drop (at + 2 + w + w + 4) s);
+    }
 
-    unfoldable pub ballotAt : ℕ → Ballot
-    ballotAt at =
-        let w = form .termBytes in
-        record {
-          candidate = numberAt 2 s at;
-          term = numberAt w s (at + 2);
-          lastTerm = numberAt w s (at + 2 + w);
-          lastIndex = numberAt 4 s (at + 2 + w + w);
-          lastPointer = take 32 (drop (at + 2 + w + w + 4) s);
-        }
+unfoldable pub signersAt : List ℕ → ℕ → ℕ
+signersAt s at = numberAt 2 s at
 
-    unfoldable pub signersAt : ℕ → ℕ
-    signersAt at = numberAt 2 s at
+-- the certificate at a place: the fields, the signers, the signatures
+unfoldable pub certificateAt : ℕ → List ℕ → ℕ → Certificate
+certificateAt w s at =
+    let end = at + ballotSize w in
+    record { ballot = ballotAt w s at; signers = signersAt s end; signatures = drop (end + 2) s }
 
-    unfoldable pub certificateAt : ℕ → Certificate
-    certificateAt at =
-        let end = at + ballotSize in
-        record { ballot = ballotAt at; signers = signersAt end; signatures = drop (end + 2) s }
+-- ---- part 3
 
-    -- the place after the certificate at a place: one signature for each of its ones among all sixteen bits
-    unfoldable pub certificateEnd : ℕ → ℕ
-    certificateEnd at = let end = at + ballotSize in end + 2 + S * ones (signersAt end)
+unfoldable pub stampsAt : ℕ → List ℕ → ℕ → ℕ → List (List ℕ)
+stampsAt S s zero at = []
+stampsAt S s (suc count) at = take S (drop at s) ∷ stampsAt S s count (at + S)
 
-    unfoldable pub certificates : ℕ → ℕ → List Certificate
-    certificates zero at = []
-    certificates (suc count) at = certificateAt at ∷ certificates count (certificateEnd at)
+-- ---- part 4
 
-    unfoldable pub certificatesEnd : ℕ → ℕ → ℕ
-    certificatesEnd zero at = at
-    certificatesEnd (suc count) at = certificatesEnd count (certificateEnd at)
+unfoldable pub commitAt : List ℕ → ℕ → Commit
+commitAt s at = record { index = numberAt 4 s at; signers = signersAt s (at + 4); signatures = drop (at + 6) s }
 
-    -- ---- the stamps
+-- the place after it: one signature for each of its ones among all sixteen bits
+unfoldable pub commitEnd : ℕ → List ℕ → ℕ → ℕ
+commitEnd S s at = at + 6 + S * ones (signersAt s (at + 4))
 
-    unfoldable pub stampsAt : ℕ → ℕ → List (List ℕ)
-    stampsAt zero at = []
-    stampsAt (suc count) at = take S (drop at s) ∷ stampsAt count (at + S)
+-- ---- where the parts stand
 
-    -- ---- the commit certificate
+module _ (w S : ℕ) (s : List ℕ) where
+  -- the place after the leader certificate at a place, likewise
+  unfoldable pub certificateEnd : ℕ → ℕ
+  certificateEnd at = let end = at + ballotSize w in end + 2 + S * ones (signersAt s end)
 
-    unfoldable pub commitAt : ℕ → Commit
-    commitAt at = record { index = numberAt 4 s at; signers = signersAt (at + 4); signatures = drop (at + 6) s }
+  unfoldable pub certificates : ℕ → ℕ → List Certificate
+  certificates zero at = []
+  certificates (suc count) at = certificateAt w s at ∷ certificates count (certificateEnd at)
 
-    unfoldable pub commitEnd : ℕ → ℕ
-    commitEnd at = at + 6 + S * ones (signersAt (at + 4))
+  unfoldable pub certificatesEnd : ℕ → ℕ → ℕ
+  certificatesEnd zero at = at
+  certificatesEnd (suc count) at = certificatesEnd count (certificateEnd at)
 
-    -- ---- the parts
+  unfoldable pub leadersFrom : ℕ
+  leadersFrom = recordSize w * recordCount s
 
-    unfoldable pub leadersAt : ℕ
-    leadersAt = recordSize * recordCount s
+  unfoldable pub stampsFrom : ℕ
+  stampsFrom = certificatesEnd (leaderCount s) leadersFrom
 
-    unfoldable pub stampsFrom : ℕ
-    stampsFrom = certificatesEnd (leaderCount s) leadersAt
+  unfoldable pub commitFrom : ℕ
+  commitFrom = stampsFrom + leaderCount s * S
 
-    unfoldable pub commitFrom : ℕ
-    commitFrom = stampsFrom + leaderCount s * S
+  -- no commit certificate where the fourth distance is 0
+  unfoldable pub commitOf : Option Commit
+  commitOf = cond (eqb (distance s 4) 0) none (some (commitAt s commitFrom))
 
-    -- no commit certificate where the fourth distance is 0
-    unfoldable pub commitOf : Option Commit
-    commitOf = cond (eqb (distance s 4) 0) none (some (commitAt commitFrom))
+  unfoldable pub view : View
+  view =
+      record {
+        log = recordsOf w (recordCount s) s;
+        leaders = certificates (leaderCount s) leadersFrom;
+        stamps = stampsAt S s (leaderCount s) stampsFrom;
+        commit = commitOf;
+      }
 
-    unfoldable pub view : View
-    view =
-        record {
-          log = recordsOf (recordCount s) s;
-          leaders = certificates (leaderCount s) leadersAt;
-          stamps = stampsAt (leaderCount s) stampsFrom;
-          commit = commitOf;
-        }
-
-    -- 9: each part begins where its distance says, and the last ends at the trailer. Without a commit certificate part 3 ends there
-    unfoldable pub laidOut : Bool
-    laidOut =
-        let T = trailerAt s in
-        all (
-        eqb (distance s 1) T ∷ eqb (leadersAt + distance s 2) T ∷ eqb (stampsFrom + distance s 3) T ∷
-        eqb (commitFrom + distance s 4) T ∷ cond (eqb (distance s 4) 0) true (eqb (commitEnd commitFrom) T) ∷ []
-        )
+  -- 9: each part begins where its distance says, and the last ends at the trailer. Without a commit certificate part 3 ends there
+  unfoldable pub laidOut : Bool
+  laidOut =
+      let T = trailerAt s in
+      all (
+      eqb (distance s 1) T ∷ eqb (leadersFrom + distance s 2) T ∷ eqb (stampsFrom + distance s 3) T ∷
+      eqb (commitFrom + distance s 4) T ∷ cond (eqb (distance s 4) 0) true (eqb (commitEnd S s commitFrom) T) ∷ []
+      )

@@ -99,7 +99,7 @@ unfoldable pub formOf : List ℕ → Form
 formOf roster = version1 (cluster roster)
 
 unfoldable pub viewOf : List ℕ → List ℕ → View
-viewOf roster s = view (formOf roster) (signatureSize roster) s
+viewOf roster s = view (formOf roster .termBytes) (signatureSize roster) s
 
 unfoldable pub slotsOf : List ℕ → List ℕ → List Slot
 slotsOf roster s = slots (signatureSize roster) (viewOf roster s)
@@ -112,7 +112,7 @@ validate roster s =
     let v = viewOf roster s in
     refusal (
     check 5 (sized s) ∷ check 6 (versioned s) ∷ check 7 (named (cluster roster) s) ∷ check 8 (counted s) ∷
-    check 9 (laidOut form (signatureSize roster) s) ∷ check 10 (every (quorate n) (masks v)) ∷ check 11 (ordered v) ∷
+    check 9 (laidOut (form .termBytes) (signatureSize roster) s) ∷ check 10 (every (quorate n) (masks v)) ∷ check 11 (ordered v) ∷
     check 12 (oneEach v) ∷ check 13 (every (leading form n) (leads v)) ∷ check 14 (within (v .commit) (length (v .log))) ∷
     check 15 (every (genuine form roster) (slotsOf roster s)) ∷ []
     )
