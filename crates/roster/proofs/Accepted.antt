@@ -108,8 +108,8 @@ module _ (roster : List ℕ) (fine : rosterNumber roster ≡ 0) where
   checked : (sized roster ≡ true) × (everyBoard (boards roster) (typed roster) ≡ true)
   unfolding rosterNumber
   checked =
-      let c2 = accepted 2 _ _ (lit< tt) fine in
-      (c2 .0, accepted 3 _ _ (lit< tt) (c2 .1) .0)
+      let c2 = accepted _ _ _ (lit< tt) fine in
+      (c2 .0, accepted _ _ _ (lit< tt) (c2 .1) .0)
 
   pub sizes : Sizes roster
   sizes = sized-true roster (checked .0)
