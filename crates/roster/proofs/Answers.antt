@@ -1,11 +1,11 @@
 -- The checks 2 to 4 one after the other: the first test that fails, or the last, gives the answer.
 -- Assumes nothing.
 use mathlib.Core.Path.{_≡_, refl, sym, ap, _∙_}
-use mathlib.Core.Bool.{Bool, true, false, cond}
+use mathlib.Core.Bool.{Bool, true, false, not, cond}
 use mathlib.Core.List.{List, [], _∷_}
 use Prim.Native.Nat.{ℕ, suc, _+_, _-_, _*_, _≤_, _<_}
 use native.Mathlib.Omega.{arith}
-use borrow.Author.Tests.{le-leb, lt-leb, eq-eqb, ne-eqb}
+use borrow.Author.Tests.{not-true, not-false, le-leb, lt-leb, eq-eqb, ne-eqb}
 use lib.Dec.{eqb}
 use lib.ListN.{length}
 use Rattle.refusal.specs.Checks.{all, check, refusal}
@@ -14,22 +14,26 @@ use Rattle.roster.specs.Roster.{headSize, boards, keyOf, treeType, oneTi
 
 -- ---- every board
 
-module _ (test : ℕ → Bool) (left : ℕ) (more : 0 < left) where
-  every-last : everyBoard left test ≡ cond (test left) (everyBoard (left - 1) test) false
+-- a loop over the boards that are left, whose answer is b: board `left` fails, or it does not, or none is left
+module _ (test : ℕ → Bool) (left : ℕ) {b : Bool} (rest : everyBoard left test ≡ b) where
+  module _ (more : 0 < left) {r : Bool} (asked : r ≡ test left) where
+    every-last : cond r (everyBoard (left - 1) test) false ≡ b
+    unfolding everyBoard
+    every-last =
+        let count : left ≡ suc (left - 1) = omega arith in
+        let last : everyBoard left test ≡ cond (test left) (everyBoard (left - 1) test) false =
+        ap (λ (n : ℕ). everyBoard n test) count ∙ rw (← count) in
+        rw asked (sym last ∙ rest)
+
+    pub fails : not r ≡ true → false ≡ b
+    fails e = rw (not-true r e) at every-last
+
+    pub next : not r ≡ false → everyBoard (left - 1) test ≡ b
+    next e = rw (not-false r e) at every-last
+
+  pub done : left ≤ 0 → true ≡ b
   unfolding everyBoard
-  every-last =
-      let count : left ≡ suc (left - 1) = omega arith in
-      ap (λ (n : ℕ). everyBoard n test) count ∙ rw (← count)
-
-  pub every-step : test left ≡ true → everyBoard (left - 1) test ≡ everyBoard left test
-  every-step e = sym (every-last ∙ rw e)
-
-  pub every-stop : test left ≡ false → everyBoard left test ≡ false
-  every-stop e = every-last ∙ rw e
-
-pub every-none : (test : ℕ → Bool) (left : ℕ) → left ≤ 0 → everyBoard left test ≡ true
-unfolding everyBoard
-every-none test left h = let none : left ≡ 0 = omega arith in rw none
+  done h = let none : left ≡ 0 = omega arith in rw none at rest
 
 -- ---- 2
 

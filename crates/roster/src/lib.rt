@@ -1,5 +1,6 @@
 // The roster, its checks and its masks (document 01, "The roster" and "What stops an audit", numbers 2 to 4).
 ghost use mathlib.Core.Path.{_≡_};
+ghost use mathlib.Core.Bool.{not};
 ghost use Prim.Native.Nat.{_+_, _*_, _≤_, _<_};
 ghost use lib.ListN.{length};
 ghost use Rattle.words.specs.BigEndian.{same};
@@ -135,12 +136,12 @@ fn all_typed(roster: &[u8], n: usize) -> bool
     true
 }
 
-// Whether two boards have one key.
-fn same_key(roster: &[u8], j: usize, k: usize) -> bool
+// Whether the keys of two boards differ.
+fn differ(roster: &[u8], j: usize, k: usize) -> bool
     requires { ⌜ (0 < j) × (j ≤ k) × (paper.headSize + keySize * k ≤ length (now roster)) ⌝ }
-    ensures { λ r. ⌜ r ≡ same (paper.keyOf (now (roster .entry)) j) (paper.keyOf (now (roster .entry)) k) ⌝ }
+    ensures { λ r. ⌜ r ≡ not (same (paper.keyOf (now (roster .entry)) j) (paper.keyOf (now (roster .entry)) k)) ⌝ }
 {
-    check::same(key_of(roster, j), key_of(roster, k))
+    !check::same(key_of(roster, j), key_of(roster, k))
 }
 
 // Whether board k's key is not that of a board before it.
@@ -150,7 +151,7 @@ fn single(roster: &[u8], k: usize) -> bool
 {
     let mut left = k - 1;
     while 0 < left {
-        if same_key(roster, left, k) {
+        if !differ(roster, left, k) {
             return false;
         }
         left -= 1;

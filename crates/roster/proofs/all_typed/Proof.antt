@@ -1,11 +1,10 @@
 -- One board a turn: the boards that are left give what all of them give.
 -- Assumes nothing.
-use mathlib.Core.Path.{_≡_, refl, sym, _∙_}
+use mathlib.Core.Path.{_≡_, refl}
 use Prim.Native.Nat.{_≤_}
 use native.Mathlib.Omega.{arith}
-use borrow.Author.Tests.{not-true, not-false}
 use Rattle.roster.specs.Roster.{everyBoard, typed}
-use Rattle.roster.proofs.Answers.{every-step, every-stop, every-none}
+use Rattle.roster.proofs.Answers.{fails, next, done}
 use Rattle.roster.proofs.all_typed.Statement.{statement}
 use Rattle.roster.proofs.all_typed.Tie as tie
 
@@ -25,7 +24,7 @@ returns : tie.Need-returns Inv-loop μ-loop
 returns c =
     let l = c .before .before .before .loop in
     let a = c .before .before .before .before .before .args in
-    sym (every-stop (typed (a .roster .now)) (l .left) (omega arith) (sym (c .before .typed .ensures) ∙ not-true _ (c .if1 .taken))) ∙ l .inv .1
+    fails (typed (a .roster .now)) (l .left) (l .inv .1) (omega arith) (c .before .typed .ensures) (c .if1 .taken)
 
 sub-left : tie.Need-sub-left Inv-loop μ-loop
 sub-left c = omega arith
@@ -37,12 +36,13 @@ loop-again : tie.Need-loop-again Inv-loop μ-loop
 loop-again c =
     let l = c .before .before .before .loop in
     let a = c .before .before .before .before .before .args in
-    (omega arith, every-step (typed (a .roster .now)) (l .left) (omega arith) (sym (c .before .typed .ensures) ∙ not-false _ (c .if1 .left)) ∙ l .inv .1)
+    (omega arith, next (typed (a .roster .now)) (l .left) (l .inv .1) (omega arith) (c .before .typed .ensures) (c .if1 .left))
 
 returns-2 : tie.Need-returns-2 Inv-loop μ-loop
 returns-2 c =
     let l = c .before .loop in
-    sym (every-none (typed (c .before .before .before .args .roster .now)) (l .left) (omega arith)) ∙ l .inv .1
+    let a = c .before .before .before .args in
+    done (typed (a .roster .now)) (l .left) (l .inv .1) (omega arith)
 
 pub all-typed-spec : {M : Type 1} → statement M
 all-typed-spec = tie.close (tie.spec Inv-loop μ-loop loop-holds typed-requires returns sub-left loop-less loop-again returns-2)

@@ -1,13 +1,13 @@
 -- One board a turn: the boards that are left give what all before k give.
 -- Assumes nothing.
-use mathlib.Core.Path.{_≡_, refl, sym, ap, _∙_}
+use mathlib.Core.Path.{_≡_, refl}
 use mathlib.Core.Bool.{Bool, not}
 use mathlib.Core.List.{List}
 use Prim.Native.Nat.{ℕ, _≤_, _-_}
 use native.Mathlib.Omega.{arith}
 use Rattle.words.specs.BigEndian.{same}
 use Rattle.roster.specs.Roster.{keyOf, everyBoard, single}
-use Rattle.roster.proofs.Answers.{every-step, every-stop, every-none}
+use Rattle.roster.proofs.Answers.{fails, next, done}
 use Rattle.roster.proofs.single.Statement.{statement}
 use Rattle.roster.proofs.single.Tie as tie
 
@@ -29,15 +29,14 @@ loop-holds : tie.Need-loop-holds Inv-loop μ-loop
 unfolding single
 loop-holds c = (omega arith, refl)
 
-same-key-requires : tie.Need-same-key-requires Inv-loop μ-loop
-same-key-requires c κs = (omega arith, omega arith, omega arith)
+differ-requires : tie.Need-differ-requires Inv-loop μ-loop
+differ-requires c κs = (omega arith, omega arith, omega arith)
 
 returns : tie.Need-returns Inv-loop μ-loop
 returns c =
     let l = c .before .before .before .loop in
     let a = c .before .before .before .before .before .args in
-    let e = sym (c .before .same-key .ensures) ∙ c .if1 .taken in
-    sym (every-stop (other (a .roster .now) (a .k)) (l .left) (omega arith) (ap not e)) ∙ l .inv .1
+    fails (other (a .roster .now) (a .k)) (l .left) (l .inv .1) (omega arith) (c .before .differ .ensures) (c .if1 .taken)
 
 sub-left-2 : tie.Need-sub-left-2 Inv-loop μ-loop
 sub-left-2 c = omega arith
@@ -49,14 +48,13 @@ loop-again : tie.Need-loop-again Inv-loop μ-loop
 loop-again c =
     let l = c .before .before .before .loop in
     let a = c .before .before .before .before .before .args in
-    let e = sym (c .before .same-key .ensures) ∙ c .if1 .left in
-    (omega arith, every-step (other (a .roster .now) (a .k)) (l .left) (omega arith) (ap not e) ∙ l .inv .1)
+    (omega arith, next (other (a .roster .now) (a .k)) (l .left) (l .inv .1) (omega arith) (c .before .differ .ensures) (c .if1 .left))
 
 returns-2 : tie.Need-returns-2 Inv-loop μ-loop
 returns-2 c =
     let l = c .before .loop in
     let a = c .before .before .before .args in
-    sym (every-none (other (a .roster .now) (a .k)) (l .left) (omega arith)) ∙ l .inv .1
+    done (other (a .roster .now) (a .k)) (l .left) (l .inv .1) (omega arith)
 
 pub single-spec : {M : Type 1} → statement M
-single-spec = tie.close (tie.spec Inv-loop μ-loop sub-left loop-holds same-key-requires returns sub-left-2 loop-less loop-again returns-2)
+single-spec = tie.close (tie.spec Inv-loop μ-loop sub-left loop-holds differ-requires returns sub-left-2 loop-less loop-again returns-2)
