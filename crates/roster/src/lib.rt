@@ -149,12 +149,12 @@ fn single(roster: &[u8], k: usize) -> bool
     requires { ⌜ (0 < k) × (paper.headSize + keySize * k ≤ length (now roster)) ⌝ }
     ensures { λ r. ⌜ r ≡ paper.single (now (roster .entry)) k ⌝ }
 {
-    let mut left = k - 1;
-    while 0 < left {
-        if !differ(roster, left, k) {
+    let mut j = k - 1;
+    while 0 < j {
+        if !differ(roster, j, k) {
             return false;
         }
-        left -= 1;
+        j -= 1;
     }
     true
 }
@@ -164,12 +164,12 @@ fn all_single(roster: &[u8], n: usize) -> bool
     requires { ⌜ paper.headSize + keySize * n ≤ length (now roster) ⌝ }
     ensures { λ r. ⌜ r ≡ paper.everyBoard n (paper.single (now (roster .entry))) ⌝ }
 {
-    let mut left = n;
-    while 0 < left {
-        if !single(roster, left) {
+    let mut last = n;
+    while 0 < last {
+        if !single(roster, last) {
             return false;
         }
-        left -= 1;
+        last -= 1;
     }
     true
 }

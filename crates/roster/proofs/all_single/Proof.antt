@@ -9,10 +9,10 @@ use Rattle.roster.proofs.all_single.Statement.{statement}
 use Rattle.roster.proofs.all_single.Tie as tie
 
 abbrev Inv-loop : tie.InvT-loop
-Inv-loop roster n left₀ left = (left ≤ n) × (everyBoard left (single roster) ≡ everyBoard n (single roster))
+Inv-loop roster n last₀ last = (last ≤ n) × (everyBoard last (single roster) ≡ everyBoard n (single roster))
 
 abbrev μ-loop : tie.MeasureT-loop
-μ-loop roster n left₀ left = left
+μ-loop roster n last₀ last = last
 
 loop-holds : tie.Need-loop-holds Inv-loop μ-loop
 loop-holds c = (omega arith, refl)
@@ -24,10 +24,10 @@ returns : tie.Need-returns Inv-loop μ-loop
 returns c =
     let l = c .before .before .before .loop in
     let a = c .before .before .before .before .before .args in
-    fails (single (a .roster .now)) (l .left) (l .inv .1) (omega arith) (c .before .single .ensures) (c .if1 .taken)
+    fails (single (a .roster .now)) (l .last) (l .inv .1) (omega arith) (c .before .single .ensures) (c .if1 .taken)
 
-sub-left : tie.Need-sub-left Inv-loop μ-loop
-sub-left c = omega arith
+sub-last : tie.Need-sub-last Inv-loop μ-loop
+sub-last c = omega arith
 
 loop-less : tie.Need-loop-less Inv-loop μ-loop
 loop-less c = omega arith
@@ -36,13 +36,13 @@ loop-again : tie.Need-loop-again Inv-loop μ-loop
 loop-again c =
     let l = c .before .before .before .loop in
     let a = c .before .before .before .before .before .args in
-    (omega arith, next (single (a .roster .now)) (l .left) (l .inv .1) (omega arith) (c .before .single .ensures) (c .if1 .left))
+    (omega arith, next (single (a .roster .now)) (l .last) (l .inv .1) (omega arith) (c .before .single .ensures) (c .if1 .left))
 
 returns-2 : tie.Need-returns-2 Inv-loop μ-loop
 returns-2 c =
     let l = c .before .loop in
     let a = c .before .before .before .args in
-    done (single (a .roster .now)) (l .left) (l .inv .1) (omega arith)
+    done (single (a .roster .now)) (l .last) (l .inv .1) (omega arith)
 
 pub all-single-spec : {M : Type 1} → statement M
-all-single-spec = tie.close (tie.spec Inv-loop μ-loop loop-holds single-requires returns sub-left loop-less loop-again returns-2)
+all-single-spec = tie.close (tie.spec Inv-loop μ-loop loop-holds single-requires returns sub-last loop-less loop-again returns-2)

@@ -16,14 +16,14 @@ abbrev other : List ℕ → ℕ → ℕ → Bool
 other roster k j = not (same (keyOf roster j) (keyOf roster k))
 
 abbrev Inv-loop : tie.InvT-loop
-Inv-loop roster k left₀ left =
-    (left ≤ k - 1) × (everyBoard left (other roster k) ≡ single roster k)
+Inv-loop roster k j₀ j =
+    (j ≤ k - 1) × (everyBoard j (other roster k) ≡ single roster k)
 
 abbrev μ-loop : tie.MeasureT-loop
-μ-loop roster k left₀ left = left
+μ-loop roster k j₀ j = j
 
-sub-left : tie.Need-sub-left Inv-loop μ-loop
-sub-left c = omega arith
+sub-j : tie.Need-sub-j Inv-loop μ-loop
+sub-j c = omega arith
 
 loop-holds : tie.Need-loop-holds Inv-loop μ-loop
 unfolding single
@@ -36,10 +36,10 @@ returns : tie.Need-returns Inv-loop μ-loop
 returns c =
     let l = c .before .before .before .loop in
     let a = c .before .before .before .before .before .args in
-    fails (other (a .roster .now) (a .k)) (l .left) (l .inv .1) (omega arith) (c .before .differ .ensures) (c .if1 .taken)
+    fails (other (a .roster .now) (a .k)) (l .j) (l .inv .1) (omega arith) (c .before .differ .ensures) (c .if1 .taken)
 
-sub-left-2 : tie.Need-sub-left-2 Inv-loop μ-loop
-sub-left-2 c = omega arith
+sub-j-2 : tie.Need-sub-j-2 Inv-loop μ-loop
+sub-j-2 c = omega arith
 
 loop-less : tie.Need-loop-less Inv-loop μ-loop
 loop-less c = omega arith
@@ -48,13 +48,13 @@ loop-again : tie.Need-loop-again Inv-loop μ-loop
 loop-again c =
     let l = c .before .before .before .loop in
     let a = c .before .before .before .before .before .args in
-    (omega arith, next (other (a .roster .now) (a .k)) (l .left) (l .inv .1) (omega arith) (c .before .differ .ensures) (c .if1 .left))
+    (omega arith, next (other (a .roster .now) (a .k)) (l .j) (l .inv .1) (omega arith) (c .before .differ .ensures) (c .if1 .left))
 
 returns-2 : tie.Need-returns-2 Inv-loop μ-loop
 returns-2 c =
     let l = c .before .loop in
     let a = c .before .before .before .args in
-    done (other (a .roster .now) (a .k)) (l .left) (l .inv .1) (omega arith)
+    done (other (a .roster .now) (a .k)) (l .j) (l .inv .1) (omega arith)
 
 pub single-spec : {M : Type 1} → statement M
-single-spec = tie.close (tie.spec Inv-loop μ-loop sub-left loop-holds differ-requires returns sub-left-2 loop-less loop-again returns-2)
+single-spec = tie.close (tie.spec Inv-loop μ-loop sub-j loop-holds differ-requires returns sub-j-2 loop-less loop-again returns-2)

@@ -2,6 +2,7 @@
 -- Assumes nothing.
 use mathlib.Core.Path.{ap, _∙_}
 use Prim.Native.Nat.{ℕ, _+_, _*_}
+use native.Mathlib.Omega.{arith}
 use lib.Dec.{eqb}
 use lib.ListN.{length}
 use Rattle.lms.specs.Check.{keySize}
@@ -16,22 +17,20 @@ returns c = no-head (c .before .before .args .roster .now) (c .if1 .taken)
 
 returns-2 : tie.Need-returns-2
 returns-2 c =
-    let n = c .before .boards .ensures .0 in
-    few-boards (c .before .before .before .before .args .roster .now) (c .before .before .if1 .left) (rw (← n) (c .if2 .taken))
+    few-boards (c .before .before .before .before .args .roster .now) (c .before .before .if1 .left) (omega arith)
 
 returns-3 : tie.Need-returns-3
 returns-3 c =
-    let n = c .before .before .boards .ensures .0 in
     many-boards (c .before .before .before .before .before .args .roster .now) (c .before .before .before .if1 .left)
-    (rw (← n) (c .before .if2 .left))
-    (rw (← n) (c .if3 .taken))
+    (omega arith)
+    (omega arith)
 
 returns-4 : tie.Need-returns-4
 returns-4 c =
     let roster = c .before .before .before .before .before .args .roster .now in
     let n = c .before .before .boards .ensures .0 in
     ap (λ (n : ℕ). eqb (length roster) (headSize + keySize * n)) n
-    ∙ by-length roster (c .before .before .before .if1 .left) (rw (← n) (c .before .if2 .left)) (rw (← n) (c .if3 .left))
+    ∙ by-length roster (c .before .before .before .if1 .left) (omega arith) (omega arith)
 
 pub sized-spec : {M : Type 1} → statement M
 sized-spec = tie.close (tie.spec returns (λ c κs. search needs) returns-2 returns-3 (λ c. search needs) (λ c. search needs) returns-4)
