@@ -11,7 +11,7 @@ use Rattle.roster.specs.Masks.{boardsFrom, boardsOf}
 use Rattle.chain.specs.Log.{Record, termFrom, lastTerm}
 use Rattle.replica.specs.Ends.{staler}
 use Rattle.replica.specs.Charges.{Charge, charge, clash, twoVotes, twoStamps, staleVote, agree, sameRecord}
-use Rattle.submission.specs.View.{run, runsFrom, runs, Certificate, View, leadsOf, leads, committedBy, committed, slot, certified, votesOf, stampOf, receiptsOf, slots}
+use Rattle.submission.specs.View.{run, runsFrom, runs, runsAfter, Certificate, View, leadsOf, leads, committedBy, committed, slot, certified, votesOf, stampOf, receiptsOf, slots}
 use Rattle.forensics.specs.Findings.{differAt, fork, says, charges, sooner, lower, lowest, rowsFrom, bit, maskOf, Findings, findings}
 
 -- a record of a term, with one byte of its payload digest
@@ -43,7 +43,7 @@ found i x y z = record { fork = i; rows = x ∷ y ∷ z ∷ replicate 6 none }
 -- one leader, two records of term 1: `fork 1`, `board 1 rule 2 term 1`
 one-leader : findings 0 (with-commit (of 1 1 ∷ []) (elected 1 1 0 0 0b011 ∷ []) 1 0b011) (with-commit (of 1 2 ∷ []) (elected 1 1 0 0 0b011 ∷ []) 1 0b101)
     ≡ found 1 (row 2 1) none none
-unfolding findings found row with-commit elected of fork committed committedBy differAt slots leads leadsOf runs runsFrom run votesOf stampOf receiptsOf certified slot boardsOf
+unfolding findings found row with-commit elected of fork committed committedBy differAt slots leads leadsOf runs runsAfter runsFrom run votesOf stampOf receiptsOf certified slot boardsOf
     boardsFrom lastTerm termFrom flatMap rowsFrom charges says clash charge twoVotes twoStamps staleVote staler agree sameRecord same lowest lower sooner
 one-leader = refl
 
@@ -56,7 +56,7 @@ second-log = with-commit (of 2 2 ∷ []) (elected 3 2 0 0 0b110 ∷ []) 1 0b110
 -- a leader elected on an empty log after a commit: `fork 1`, `board 2 rule 3 term 2`; exchanged, rule 4. Of the two quorums only board 2
 -- signed both certificates, and nobody else is charged
 stale-leader : (findings 0 first-log second-log ≡ found 1 none (row 3 2) none) × (findings 0 second-log first-log ≡ found 1 none (row 4 2) none)
-unfolding findings found row first-log second-log with-commit elected of fork committed committedBy differAt slots leads leadsOf runs runsFrom run votesOf stampOf receiptsOf certified
+unfolding findings found row first-log second-log with-commit elected of fork committed committedBy differAt slots leads leadsOf runs runsAfter runsFrom run votesOf stampOf receiptsOf certified
     slot boardsOf boardsFrom lastTerm termFrom flatMap rowsFrom charges says clash charge twoVotes twoStamps staleVote staler agree sameRecord same lowest lower sooner
 stale-leader = (refl, refl)
 
@@ -65,7 +65,7 @@ stale-leader = (refl, refl)
 -- a log that is a beginning of the other, so that the last stamps' pointers differ
 beginning : findings 0 (with-commit (of 1 1 ∷ []) (elected 1 1 0 0 0b011 ∷ []) 1 0b011) (with-commit (of 1 1 ∷ of 1 2 ∷ []) (elected 1 1 0 0 0b011 ∷ []) 2 0b011)
     ≡ found 0 none none none
-unfolding findings found with-commit elected of fork committed committedBy differAt slots leads leadsOf runs runsFrom run votesOf stampOf receiptsOf certified slot boardsOf
+unfolding findings found with-commit elected of fork committed committedBy differAt slots leads leadsOf runs runsAfter runsFrom run votesOf stampOf receiptsOf certified slot boardsOf
     boardsFrom lastTerm termFrom flatMap rowsFrom charges says clash charge twoVotes twoStamps staleVote staler agree sameRecord same lowest lower sooner
 beginning = refl
 
@@ -73,13 +73,13 @@ beginning = refl
 -- 1 voted on the empty log after its receipt, and is
 term-first : findings 0 (with-commit (of 1 1 ∷ of 1 2 ∷ []) (elected 1 1 0 0 0b011 ∷ []) 2 0b011) (without (of 2 1 ∷ of 3 1 ∷ []) (elected 3 2 0 0 0b101 ∷ elected 3 3 2 1 0b110 ∷ []))
     ≡ found 0 (row 3 2) none none
-unfolding findings found row with-commit without elected of fork committed committedBy differAt slots leads leadsOf runs runsFrom run votesOf stampOf receiptsOf certified slot boardsOf
+unfolding findings found row with-commit without elected of fork committed committedBy differAt slots leads leadsOf runs runsAfter runsFrom run votesOf stampOf receiptsOf certified slot boardsOf
     boardsFrom lastTerm termFrom flatMap rowsFrom charges says clash charge twoVotes twoStamps staleVote staler agree sameRecord same lowest lower sooner
 term-first = refl
 
 -- one leader's stamps in two different terms, on different logs
 two-terms : findings 0 (without (of 1 1 ∷ []) (elected 1 1 0 0 0b011 ∷ [])) (without (of 2 2 ∷ []) (elected 1 2 0 0 0b011 ∷ [])) ≡ found 0 none none none
-unfolding findings found without elected of fork committed committedBy differAt slots leads leadsOf runs runsFrom run votesOf stampOf receiptsOf certified slot boardsOf
+unfolding findings found without elected of fork committed committedBy differAt slots leads leadsOf runs runsAfter runsFrom run votesOf stampOf receiptsOf certified slot boardsOf
     boardsFrom lastTerm termFrom flatMap rowsFrom charges says clash charge twoVotes twoStamps staleVote staler agree sameRecord same lowest lower sooner
 two-terms = refl
 
@@ -102,6 +102,6 @@ rows = (refl, refl, refl, refl)
 -- votes of one term for different candidates: only the board that signed both certificates is charged
 two-candidates : findings 0 (without (of 4 1 ∷ []) (elected 1 4 0 0 0b011 ∷ [])) (without (of 4 2 ∷ []) (elected 2 4 0 0 0b110 ∷ []))
     ≡ found 0 none (row 1 4) none
-unfolding findings found row without elected of fork committed committedBy differAt slots leads leadsOf runs runsFrom run votesOf stampOf receiptsOf certified slot boardsOf
+unfolding findings found row without elected of fork committed committedBy differAt slots leads leadsOf runs runsAfter runsFrom run votesOf stampOf receiptsOf certified slot boardsOf
     boardsFrom lastTerm termFrom flatMap rowsFrom charges says clash charge twoVotes twoStamps staleVote staler agree sameRecord same lowest lower sooner
 two-candidates = refl

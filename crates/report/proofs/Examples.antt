@@ -13,8 +13,8 @@ use Rattle.lms.specs.Check.{signatureLength, pathAt, oneTimeBytes}
 use Rattle.roster.specs.Roster.{cluster, boards, keyOf, treeType, oneTimeType, levels, signatureSize, everyBoard, sized, typed, single, rosterNumber}
 use Rattle.chain.specs.Log.{version1}
 use Rattle.replica.specs.Ends.{rising}
-use Rattle.submission.specs.Trailer.{trailerAt, name, word, recordCount, leaderCount, distance, version}
-use Rattle.submission.specs.View.{runs, leads, leadsOf, committed, committedBy, slots, receiptsOf}
+use Rattle.submission.specs.Trailer.{name, word, recordCount, leaderCount, distance, version}
+use Rattle.submission.specs.View.{runs, runsAfter, leads, leadsOf, committed, committedBy, slots, receiptsOf}
 use Rattle.submission.specs.Reading.{view, laidOut, recordSize, recordsOf, certificates, certificatesEnd, stampsAt, leadersFrom, stampsFrom, commitFrom, commitOf}
 use Rattle.submission.specs.Validate.{sized as sizedSubmission, versioned, named, counted, commitSigners, masks, ordered, oneEach, within, formOf, viewOf, slotsOf, validate}
 use Rattle.forensics.specs.Findings.{differAt, fork, says, charges, lowest, rowsFrom, bit, maskOf, findings}
@@ -40,7 +40,7 @@ orders : (audited three sampleSubmission sampleSubmission ≡ told 0 0) × (audi
     × (audited three sampleSubmission (replicate 44 0) ≡ told 6 2)
 unfolding three audited told auditNumber reportAfter short answer refused reportBytes rowBytes sampleKey sampleRoster sampleSubmission findings fork committed committedBy
     differAt rowsFrom charges says lowest maskOf bit be number numberAt same flatMap all every check refusal cluster boards keyOf treeType oneTimeType everyBoard sized typed
-    single rosterNumber version1 rising trailerAt name word recordCount leaderCount distance version runs leads leadsOf slots receiptsOf view laidOut recordSize recordsOf
+    single rosterNumber version1 rising name word recordCount leaderCount distance version runs runsAfter leads leadsOf slots receiptsOf view laidOut recordSize recordsOf
     certificates certificatesEnd stampsAt leadersFrom stampsFrom commitFrom commitOf sizedSubmission versioned named counted commitSigners masks ordered oneEach within formOf
     viewOf slotsOf validate signatureSize signatureLength pathAt oneTimeBytes row levels height
 orders = (refl, refl, refl, refl, refl, refl, refl)

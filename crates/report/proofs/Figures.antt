@@ -13,8 +13,8 @@ use Rattle.roster.specs.Roster.{cluster, boards, quorum, keyOf, treeType, oneTi
 use Rattle.chain.specs.Log.{version1}
 use Rattle.replica.specs.Ends.{rising, staler}
 use Rattle.replica.specs.Charges.{charge, clash, staleVote}
-use Rattle.submission.specs.Trailer.{trailerAt, name, word, recordCount, leaderCount, distance, version}
-use Rattle.submission.specs.View.{runs, leads, leadsOf, slots, receiptsOf}
+use Rattle.submission.specs.Trailer.{name, word, recordCount, leaderCount, distance, version}
+use Rattle.submission.specs.View.{runs, runsAfter, leads, leadsOf, slots, receiptsOf}
 use Rattle.submission.specs.Reading.{view, laidOut, recordSize, recordsOf, certificates, certificatesEnd, stampsAt, leadersFrom, stampsFrom, commitFrom, commitOf}
 use Rattle.submission.specs.Validate.{sized as sizedSubmission, versioned, named, counted, commitSigners, masks, ordered, oneEach, within, formOf, viewOf, slotsOf, validate}
 use Rattle.forensics.specs.Findings.{lowest, lower}
@@ -29,7 +29,7 @@ both (x ∷ xs) ys h k = (h .0, both xs ys (h .1) k)
 audit-figures : AllHold auditFigures
 unfolding AllHold figure auditFigures sampleKey sampleRoster sampleSubmission receiptThenVote ruleOf lowest lower clash charge staleVote staler
     be number numberAt same flatMap all every check refusal cluster boards quorum keyOf treeType oneTimeType everyBoard sized typed single rosterNumber
-    version1 rising trailerAt name word recordCount leaderCount distance version runs leads leadsOf slots receiptsOf view laidOut recordSize recordsOf
+    version1 rising name word recordCount leaderCount distance version runs runsAfter leads leadsOf slots receiptsOf view laidOut recordSize recordsOf
     certificates certificatesEnd stampsAt leadersFrom stampsFrom commitFrom commitOf sizedSubmission versioned named counted commitSigners masks ordered
     oneEach within formOf viewOf slotsOf validate signatureSize signatureLength pathAt oneTimeBytes row levels height
 audit-figures = (refl, (refl, (refl, (refl, (refl, (refl, (refl, (refl, (refl, (refl, (refl, tt)))))))))))

@@ -16,8 +16,8 @@ use Rattle.roster.specs.Masks.{signer, boardsFrom, boardsOf}
 use Rattle.chain.specs.Log.{Form, version1, Record, pointer, pointerFrom, termFrom, lastTerm}
 use Rattle.chain.specs.Claim.{Ballot, stamped, received, voted}
 use Rattle.replica.specs.Ends.{rising}
-use Rattle.submission.specs.Trailer.{trailerAt, name, word, recordCount, leaderCount, distance, version}
-use Rattle.submission.specs.View.{run, runsFrom, runs, Certificate, Commit, View, leadsOf, leads, slot, certified, votesOf, stampOf, receiptsOf, slots}
+use Rattle.submission.specs.Trailer.{name, word, recordCount, leaderCount, distance, version}
+use Rattle.submission.specs.View.{run, runsFrom, runs, runsAfter, Certificate, Commit, View, leadsOf, leads, slot, certified, votesOf, stampOf, receiptsOf, slots}
 use Rattle.submission.specs.Reading.{view, laidOut, recordSize, ballotSize, recordsOf, ballotAt, signersAt, certificateAt, certificateEnd, certificates, certificatesEnd, stampsAt, commitAt, commitEnd, leadersFrom, stampsFrom, commitFrom, commitOf}
 use Rattle.submission.specs.Validate.{sized, versioned, named, counted, quorate, commitSigners, masks, ordered, oneEach, leading, within, genuine}
 
@@ -47,7 +47,7 @@ fields : (versioned none-at-all ≡ true) × (versioned (trailer 0 0 (0 ∷ 0 �
     × (named (replicate 16 7) none-at-all ≡ true) × (named (replicate 15 7 ++ (8 ∷ [])) none-at-all ≡ false)
     × (counted (trailer 4096 64 (0 ∷ 0 ∷ 0 ∷ 0 ∷ []) 1) ≡ true) × (counted (trailer 4097 64 (0 ∷ 0 ∷ 0 ∷ 0 ∷ []) 1) ≡ false)
     × (counted (trailer 4096 65 (0 ∷ 0 ∷ 0 ∷ 0 ∷ []) 1) ≡ false)
-unfolding none-at-all trailer versioned version named name counted recordCount leaderCount word trailerAt all numberAt number be same flatMap
+unfolding none-at-all trailer versioned version named name counted recordCount leaderCount word all numberAt number be same flatMap
 fields = (refl, refl, refl, refl, refl, refl, refl, refl)
 
 -- one record of 36 bytes, a leader certificate of 48 bytes with two signatures, a stamp, a commit certificate of 6 bytes with two signatures
@@ -65,7 +65,7 @@ layouts : (laid (95 ∷ 59 ∷ 9 ∷ 8 ∷ []) ≡ true) × (laid (94 ∷ 59 ∷
     × (laidOut 4 1 (take 87 parts ++ trailer 1 1 (87 ∷ 51 ∷ 1 ∷ 0 ∷ []) 1) ≡ true)
     × (laidOut 4 1 none-at-all ≡ true) × (laidOut 4 1 (trailer 4096 0 (0 ∷ 0 ∷ 0 ∷ 0 ∷ []) 1) ≡ false)
 unfolding laid parts form version1 none-at-all trailer laidOut leadersFrom stampsFrom commitFrom commitEnd certificatesEnd certificateEnd signersAt recordSize ballotSize
-    distance recordCount leaderCount word trailerAt all numberAt number be flatMap ones onesIn
+    distance recordCount leaderCount word all numberAt number be flatMap ones onesIn
 layouts = (refl, refl, refl, refl, refl, refl, refl, refl, refl, refl, refl)
 
 -- what is read: the record, the ballot's fields, whose signature each byte is
@@ -76,8 +76,8 @@ reading : (slots 1 (view 4 1 (parts ++ trailer 1 1 (95 ∷ 59 ∷ 9 ∷ 8 ∷ []
     slot 1 (received 16843009 (record { term = 16843009; digest = replicate 32 1 } ∷ [])) (13 ∷ []) ∷
     slot 3 (received 16843009 (record { term = 16843009; digest = replicate 32 1 } ∷ [])) (14 ∷ []) ∷ [])
 unfolding slots view parts form version1 trailer leadersFrom stampsFrom commitFrom commitOf commitAt certificatesEnd certificateEnd certificates certificateAt ballotAt
-    stampsAt signersAt recordSize ballotSize recordsOf leads leadsOf runs runsFrom run votesOf stampOf receiptsOf certified slot boardsOf boardsFrom lastTerm termFrom
-    distance recordCount leaderCount word trailerAt numberAt number be flatMap ones onesIn
+    stampsAt signersAt recordSize ballotSize recordsOf leads leadsOf runs runsAfter runsFrom run votesOf stampOf receiptsOf certified slot boardsOf boardsFrom lastTerm termFrom
+    distance recordCount leaderCount word numberAt number be flatMap ones onesIn
 reading = refl
 
 -- ---- what it says
@@ -108,7 +108,7 @@ orders = (refl, refl, refl, refl)
 
 -- the distinct terms, with the log before and up to the last record of each
 terms : (runs [] ≡ []) × (runs (of 1 ∷ of 1 ∷ of 3 ∷ []) ≡ run [] (of 1 ∷ of 1 ∷ []) ∷ run (of 1 ∷ of 1 ∷ []) (of 1 ∷ of 1 ∷ of 3 ∷ []) ∷ [])
-unfolding runs runsFrom run of lastTerm termFrom
+unfolding runs runsAfter runsFrom run of lastTerm termFrom
 terms = (refl, refl)
 
 certificate : Ballot → ℕ → Certificate
@@ -120,7 +120,7 @@ ballot candidate t u j p = record { candidate = candidate; term = t; lastTerm = 
 -- 12
 counts : (let c = certificate (ballot 1 1 0 0 []) 3 in (oneEach (logged (of 1 ∷ of 1 ∷ of 3 ∷ []) (c ∷ c ∷ [])) ≡ true)
     × (oneEach (logged (of 1 ∷ of 1 ∷ of 3 ∷ []) (c ∷ [])) ≡ false) × (oneEach (logged [] (c ∷ [])) ≡ false))
-unfolding oneEach logged runs runsFrom run of lastTerm termFrom
+unfolding oneEach logged runs runsAfter runsFrom run of lastTerm termFrom
 counts = (refl, refl, refl)
 
 -- 13: the first term of a log, of three boards, signers 1 and 2
@@ -148,5 +148,5 @@ commits = (refl, refl, refl, refl, refl)
 
 -- 15: no signature is good under what is no key; the empty log has none to be bad
 signatures : (genuine form [] (slot 1 (stamped 4 (of 4 ∷ [])) (replicate 1292 0)) ≡ false) × (every (genuine form []) (slots 1 (logged [] [])) ≡ true)
-unfolding genuine good keyOf slot every slots logged leads leadsOf runs receiptsOf flatMap
+unfolding genuine good keyOf slot every slots logged leads leadsOf runs runsAfter receiptsOf flatMap
 signatures = (refl, refl)

@@ -171,7 +171,7 @@ module _ (form : Form) (S : ℕ) where
 
 -- check 9: part 1 has the bytes of its records
 records-room : (form : Form) (S : ℕ) (s : List ℕ) → laidOut (form .termBytes) S s ≡ true → recordSize (form .termBytes) * recordCount s ≤ length s
-unfolding laidOut leadersFrom trailerAt
+unfolding laidOut leadersFrom
 records-room form S s e =
     let e2 = all-cons _ _ (all-cons _ _ e .1) in
     omega (arith, eqb-true (leadersFrom (form .termBytes) S s + distance s 2) (trailerAt s) (e2 .0))

@@ -13,7 +13,7 @@ use lib.Seq.{append-snoc, take-append-seam, take-at}
 use Rattle.refusal.proofs.Laws.{look}
 use Rattle.chain.specs.Log.{Record, termFrom, lastTerm}
 use Rattle.replica.proofs.Order.{last-snoc}
-use Rattle.submission.specs.View.{Run, run, runsFrom, runs}
+use Rattle.submission.specs.View.{Run, run, runsFrom, runs, runsAfter}
 
 -- ---- one record more
 
@@ -46,7 +46,7 @@ begin-from before upto (s ∷ rest) r m =
     (next before upto s rest)
 
 pub run-begins : (log : List Record) (r : Run) → List·Memᴰ r (runs log) → take (length (r .upto)) log ≡ r .upto
-unfolding runs
+unfolding runs runsAfter
 run-begins [] r m = absurd (List·Memᴰ·not-nil m)
 run-begins (s ∷ log) r m = begin-from [] (s ∷ []) log r m
 
@@ -120,7 +120,7 @@ reach-from (suc more) before upto (s ∷ rest) h =
     reach-later more before upto rest s (λ from. reach-from more from (upto ++ (s ∷ [])) rest (omega arith))
 
 pub run-reaches : (log : List Record) (i : ℕ) → 0 < i → i ≤ length log → Reaches log i (runs log)
-unfolding runs
+unfolding runs runsAfter
 run-reaches log zero p h = absurd (omega arith)
 run-reaches [] (suc i) p h = absurd (omega arith)
 run-reaches (s ∷ log) (suc i) p h =
@@ -170,6 +170,6 @@ cross-from before upto (s ∷ rest) t low high =
     (next before upto s rest)
 
 pub run-crosses : (log : List Record) (t : ℕ) → t < lastTerm log → Crosses [] t (runs log)
-unfolding runs lastTerm termFrom
+unfolding runs runsAfter lastTerm termFrom
 run-crosses [] t h = absurd (omega arith)
 run-crosses (s ∷ log) t h = cross-from [] (s ∷ []) log t zero-le h

@@ -10,7 +10,7 @@ trailerSize = 44
 
 module _ (s : List ℕ) where
   -- the trailer's first byte, from which the distances count back
-  unfoldable pub trailerAt : ℕ
+  abbrev pub trailerAt : ℕ
   trailerAt = length s - trailerSize
 
   unfoldable pub name : List ℕ

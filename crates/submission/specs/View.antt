@@ -27,10 +27,14 @@ runsFrom before upto (r ∷ log) =
     let longer = upto ++ (r ∷ []) in
     cond (eqb (r .term) (lastTerm upto)) (runsFrom before longer log) (run before upto ∷ runsFrom upto longer log)
 
+-- the runs of the records that follow a log
+unfoldable pub runsAfter : List Record → List Record → List Run
+runsAfter before [] = []
+runsAfter before (r ∷ log) = runsFrom before (before ++ (r ∷ [])) log
+
 -- the distinct terms of a log whose terms do not fall, in log order
 unfoldable pub runs : List Record → List Run
-runs [] = []
-runs (r ∷ log) = runsFrom [] (r ∷ []) log
+runs log = runsAfter [] log
 
 -- ---- the certificates
 
