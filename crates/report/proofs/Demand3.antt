@@ -5,17 +5,17 @@ use mathlib.Core.Path.{_≡_, sym, _∙_}
 use mathlib.Core.Bool.{true, false}
 use mathlib.Core.List.{List}
 use mathlib.Core.Logic.{⊎-elim}
-use Prim.Native.Nat.{ℕ, _^_, _≤_, _<_}
+use Prim.Native.Nat.{ℕ, _^_, _<_}
 use native.Mathlib.Nat.{lt-of-lt-of-le}
 use native.Mathlib.Omega.{arith}
-use borrow.Author.Tests.{leb-true}
 use lib.Dec.{lit<, lit≤}
 use lib.ListN.{drop}
 use Rattle.words.specs.BigEndian.{Bytes}
-use Rattle.refusal.proofs.Laws.{look, all-cons, accepted}
-use Rattle.roster.specs.Roster.{boards, sized, rosterNumber, signatureSize}
+use Rattle.refusal.proofs.Laws.{look}
+use Rattle.roster.specs.Roster.{boards, signatureSize}
 use Rattle.roster.specs.Masks.{signer}
 use Rattle.roster.proofs.Masks.{signer-positive}
+use Rattle.roster.proofs.Accepted.{sizes}
 use Rattle.submission.specs.Validate.{formOf, viewOf, slotsOf}
 use Rattle.submission.proofs.Accepted.{validated}
 use Rattle.forensics.specs.Findings.{findings, rowCount, rowsFrom, maskOf, bit}
@@ -26,15 +26,6 @@ use Rattle.report.specs.Report.{Answer, refused, answer, reportSize, sho
 use Rattle.report.specs.Claims.{Naming, Fairness}
 use Rattle.report.proofs.Bytes.{named-in, Outcome, compared, stopped, outcome}
 use Rattle.report.proofs.Fairness.{rows-fair}
-
--- n is 3 to 9 in a roster that is not refused
-few-boards : (roster : List ℕ) → rosterNumber roster ≡ 0 → (3 ≤ boards roster) × (boards roster ≤ 9)
-unfolding rosterNumber sized
-few-boards roster e =
-    let size = accepted 2 _ _ (lit< tt) e .0 in
-    let low = all-cons _ _ (all-cons _ _ size .1) in
-    let high = all-cons _ _ (low .1) in
-    (leb-true 3 (boards roster) (low .0), leb-true (boards roster) 9 (high .0))
 
 -- nine rows have a mask that fits its two bytes
 mask-fits : (roster s₁ s₂ : List ℕ) → maskOf (findings (signatureSize roster) (viewOf roster s₁) (viewOf roster s₂) .rows) < 256 ^ 2
@@ -70,9 +61,9 @@ module _ (roster s₁ s₂ report : List ℕ) where
       go : short report ≡ false → Outcome roster s₁ s₂ → ⊥
       go e (stopped number side some-number d) = some-number (sym (number-is e (refused number side) d) ∙ zero-number)
       go e (compared r v₁ v₂ d) =
-          let few = few-boards roster r in
+          let few = sizes roster r in
           let apart = differ-at (differ .index) _ _ (differ .one) (differ .other) (differ .in-one) (differ .in-other) (differ .differ) in
-          let positive = views-naming (formOf roster) (boards roster) (signatureSize roster) (omega (arith, few .0)) (few .1) (viewOf roster s₁) (viewOf roster s₂)
+          let positive = views-naming (formOf roster) (boards roster) (signatureSize roster) (omega (arith, few .low)) (few .high) (viewOf roster s₁) (viewOf roster s₂)
           (validated roster s₁ v₁ .sound) (validated roster s₂ v₂ .sound) apart in
           omega (arith, positive, named-are e _ d (mask-fits roster s₁ s₂), nobody)
 
@@ -83,6 +74,6 @@ module _ (roster s₁ s₂ report : List ℕ) where
       go : short report ≡ false → Outcome roster s₁ s₂ → signer (namedIn (reportAfter roster s₁ s₂ report)) k ≡ false
       go e (stopped number side some-number d) = rw (named-are e (refused number side) d (lit< tt)) (no-one k)
       go e (compared r v₁ v₂ d) =
-          let few = few-boards roster r in
-          let none-charged = rows-fair roster s₁ s₂ b₁ b₂ v₁ v₂ (omega (arith, few .1)) k acts keep own apart in
-          rw (named-are e _ d (mask-fits roster s₁ s₂)) (mask-clear (slotsOf roster s₁) (slotsOf roster s₂) rowCount k low (omega (arith, few .1, high)) none-charged)
+          let few = sizes roster r in
+          let none-charged = rows-fair roster s₁ s₂ b₁ b₂ v₁ v₂ (omega (arith, few .high)) k acts keep own apart in
+          rw (named-are e _ d (mask-fits roster s₁ s₂)) (mask-clear (slotsOf roster s₁) (slotsOf roster s₂) rowCount k low (omega (arith, few .high, high)) none-charged)
