@@ -41,3 +41,13 @@ pub accepted : (k : ℕ) (met : Bool) (cs : List Check) → 0 < k → refusal (c
 unfolding refusal check
 accepted k true cs h e = (refl, e)
 accepted k false cs h e = absurd (omega (arith, h, e))
+
+-- ---- one check after the other
+
+pub passed : (k : ℕ) (met : Bool) (cs : List Check) → met ≡ true → refusal (check k met ∷ cs) ≡ refusal cs
+unfolding refusal check
+passed k met cs e = rw e
+
+pub refused : (k : ℕ) (met : Bool) (cs : List Check) → met ≡ false → refusal (check k met ∷ cs) ≡ k
+unfolding refusal check
+refused k met cs e = rw e
