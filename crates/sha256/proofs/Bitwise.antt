@@ -1,4 +1,4 @@
--- Functions of binary digits are equal where they agree on digits; rotations of words in nested form.
+-- Functions of binary digits are equal where they agree on digits; rotations of words in nested form, and as xor of two shifts.
 -- Assumes nothing.
 use mathlib.Core.Path.{_≡_, refl, sym, ap, ap₂, _∙_}
 use Prim.Native.Nat.{ℕ, zero, suc, _+_, _-_, _*_, _/_, _%_, _^_, _<_}
@@ -7,7 +7,7 @@ use native.Mathlib.Omega.{arith}
 use lib.Arith.{lt-one, mod-mul}
 use lib.Pow.{pow-pos, pow-add, split, high, low}
 use lib.Dec.{lit<}
-use lib.Bits.{bitAnd, bitOr, bitXor, and-shr, xor-shr, and-mod, xor-mod, or-lt, xor-lt, or-shifted-r, xor-block}
+use lib.Bits.{bitAnd, bitOr, bitXor, and-shr, xor-shr, and-mod, xor-mod, xor-comm, or-lt, xor-lt, or-shifted-r, xor-shifted, xor-block}
 use Rattle.sha256.specs.Sha256.{shr, rotr, ch, maj}
 
 -- ---- digit by digit
@@ -106,34 +106,65 @@ maj-short x y z hx hy hz =
     hy
     hz
 
+pub xor-assoc : (x y z : ℕ) → x < 2 ^ 32 → y < 2 ^ 32 → z < 2 ^ 32 → bitXor (bitXor x y) z ≡ bitXor x (bitXor y z)
+unfolding Digitwise
+xor-assoc x y z hx hy hz =
+    agree (λ x n y z. bitXor (bitXor x y) z) (λ x n y z. bitXor x (bitXor y z))
+    (λ x n y z. (simp xor-half, simp xor-odd))
+    (λ x n y z. (simp xor-half, simp xor-odd))
+    refl
+    (digits (λ a b c. bitXor (bitXor a b) c ≡ bitXor a (bitXor b c)) refl refl refl refl refl refl refl refl)
+    32
+    x
+    y
+    z
+    hx
+    hy
+    hz
+
 -- ---- rotations
 
 rotr-lt : (n x : ℕ) → x < 2 ^ 32 → rotr n x < 2 ^ 32
 unfolding rotr shr
 rotr-lt n x h = or-lt 32 (x / 2 ^ n) (x * 2 ^ (32 - n) % 2 ^ 32) (lt-of-le-of-lt (div-le-self x (2 ^ n)) h) (mod-lt (x * 2 ^ (32 - n)) (lit< tt))
 
+-- a shift to the left by k keeps the n low digits
+shl-low : (n k x : ℕ) → n + k ≡ 32 → x * 2 ^ k % 2 ^ 32 ≡ x % 2 ^ n * 2 ^ k
+shl-low n k x h =
+    let width : 2 ^ 32 ≡ 2 ^ n * 2 ^ k = ap (λ (i : ℕ). 2 ^ i) (sym h) ∙ pow-add 2 n k in
+    ap (λ (w : ℕ). x * 2 ^ k % w) width
+    ∙ mod-mul (x * 2 ^ k) (pow-pos n) (pow-pos k)
+    ∙ ap₂ (λ (u v : ℕ). u % 2 ^ n * 2 ^ k + v) (mul-div-cancel x (pow-pos k)) (mul-mod-left x (2 ^ k))
+    ∙ add-zero (x % 2 ^ n * 2 ^ k)
+
+-- and one to the right by n the k high ones
+shr-lt : (n k x : ℕ) → n + k ≡ 32 → x < 2 ^ 32 → x / 2 ^ n < 2 ^ k
+shr-lt n k x h hx =
+    let width : 2 ^ 32 ≡ 2 ^ k * 2 ^ n = ap (λ (i : ℕ). 2 ^ i) (sym h) ∙ pow-add 2 n k ∙ mul-comm (2 ^ n) (2 ^ k) in
+    div-lt-iff-lt-mul (pow-pos n) .1 (rw (← width) hx)
+
 -- the n low digits go above the k high ones
 rotr-sum : (n k x : ℕ) → n + k ≡ 32 → x < 2 ^ 32 → rotr n x ≡ x % 2 ^ n * 2 ^ k + x / 2 ^ n
 unfolding rotr shr
 rotr-sum n k x h hx =
     let rest : 32 - n ≡ k = omega arith in
-    let width : 2 ^ 32 ≡ 2 ^ n * 2 ^ k = ap (λ (i : ℕ). 2 ^ i) (sym h) ∙ pow-add 2 n k in
-    let wide : x < 2 ^ k * 2 ^ n = rw (mul-comm (2 ^ k) (2 ^ n), ← width) hx in
-    let shifted : x * 2 ^ k % (2 ^ n * 2 ^ k) ≡ x % 2 ^ n * 2 ^ k =
-    mod-mul (x * 2 ^ k) (pow-pos n) (pow-pos k)
-    ∙ ap₂ (λ (u v : ℕ). u % 2 ^ n * 2 ^ k + v) (mul-div-cancel x (pow-pos k)) (mul-mod-left x (2 ^ k))
-    ∙ add-zero (x % 2 ^ n * 2 ^ k) in
-    ap₂ (λ (i w : ℕ). bitOr (x / 2 ^ n) (x * 2 ^ i % w)) rest width
-    ∙ ap (bitOr (x / 2 ^ n)) shifted
-    ∙ or-shifted-r (x % 2 ^ n) k (x / 2 ^ n) (div-lt-iff-lt-mul (pow-pos n) .1 wide)
+    ap (λ (i : ℕ). bitOr (x / 2 ^ n) (x * 2 ^ i % 2 ^ 32)) rest
+    ∙ ap (bitOr (x / 2 ^ n)) (shl-low n k x h)
+    ∙ or-shifted-r (x % 2 ^ n) k (x / 2 ^ n) (shr-lt n k x h hx)
+
+-- the two shifts of a rotation have no digit in common
+pub rotr-shifts : (n k x : ℕ) → n + k ≡ 32 → x < 2 ^ 32 → bitXor (x / 2 ^ n) (x * 2 ^ k % 2 ^ 32) ≡ rotr n x
+rotr-shifts n k x h hx =
+    xor-comm (x / 2 ^ n) (x * 2 ^ k % 2 ^ 32)
+    ∙ ap (λ (v : ℕ). bitXor v (x / 2 ^ n)) (shl-low n k x h)
+    ∙ xor-shifted (x % 2 ^ n) k (x / 2 ^ n) (shr-lt n k x h hx)
+    ∙ sym (rotr-sum n k x h hx)
 
 rotr-xor : (n k x y : ℕ) → n + k ≡ 32 → x < 2 ^ 32 → y < 2 ^ 32 → rotr n (bitXor x y) ≡ bitXor (rotr n x) (rotr n y)
 rotr-xor n k x y h hx hy =
-    let width : 2 ^ 32 ≡ 2 ^ k * 2 ^ n = ap (λ (i : ℕ). 2 ^ i) (sym h) ∙ pow-add 2 n k ∙ mul-comm (2 ^ n) (2 ^ k) in
-    let top : (v : ℕ) → v < 2 ^ 32 → v / 2 ^ n < 2 ^ k = λ v hv. div-lt-iff-lt-mul (pow-pos n) .1 (rw (← width) hv) in
     rotr-sum n k (bitXor x y) h (xor-lt 32 x y hx hy)
     ∙ ap₂ (λ (u v : ℕ). u * 2 ^ k + v) (xor-mod x y n) (xor-shr x y n)
-    ∙ sym (xor-block k (x % 2 ^ n) (y % 2 ^ n) (x / 2 ^ n) (y / 2 ^ n) (top x hx) (top y hy))
+    ∙ sym (xor-block k (x % 2 ^ n) (y % 2 ^ n) (x / 2 ^ n) (y / 2 ^ n) (shr-lt n k x h hx) (shr-lt n k y h hy))
     ∙ sym (ap₂ bitXor (rotr-sum n k x h hx) (rotr-sum n k y h hy))
 
 rotr-rotr : (a b c x : ℕ) → a + b + c ≡ 32 → x < 2 ^ 32 → rotr a (rotr b x) ≡ rotr (a + b) x

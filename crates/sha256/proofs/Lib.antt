@@ -1,8 +1,8 @@
-mod Bitwise
+pub mod Bitwise
 pub mod Blocks
 pub mod Examples
-mod Extend
+pub mod Extend
 mod Output
 mod Padding
-mod Rounds
+pub mod Rounds
 mod Tables

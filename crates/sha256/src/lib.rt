@@ -8,7 +8,7 @@ ghost use Rattle.words.specs.BigEndian.{be};
 ghost use Rattle.sha256.specs.Sha256 as fips;
 ghost use Rattle.sha256.specs.Service.{digestNumber, digestAfter};
 
-mod functions;
+pub mod functions;
 mod schedule;
 
 use functions::add;
@@ -33,7 +33,7 @@ pub struct State {
 pub const MESSAGE_MAX: usize = 16777216;
 
 // FIPS 180-4, 4.2.2.
-const K: [u32; 64] = [
+pub const K: [u32; 64] = [
     0x428a_2f98,
     0x7137_4491,
     0xb5c0_fbcf,
@@ -151,7 +151,7 @@ impl State {
     }
 
     // The sums, field by field.
-    fn plus(self, s: State) -> State
+    pub fn plus(self, s: State) -> State
         ensures { λ r. ⌜ r ≡ fips.plus self s ⌝ }
     {
         State {

@@ -1,0 +1,4 @@
+mod Each
+mod Rotations
+mod Rows
+mod Turns

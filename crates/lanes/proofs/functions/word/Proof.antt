@@ -1,0 +1,19 @@
+-- Each call's promise, put together.
+-- Assumes nothing.
+use borrow.Author.Needs.{needs}
+use Rattle.lanes.proofs.functions.word.Statement.{statement}
+use Rattle.lanes.proofs.functions.word.Tie as tie
+
+returns : tie.Need-returns
+returns c = cc
+
+pub word-spec : {M : Type 1} → statement M
+word-spec =
+    tie.close
+    (tie.spec
+    (λ c κs. search needs)
+    (λ c κs. search needs)
+    (λ c κs. search needs)
+    (λ c κs. search needs)
+    (λ c κs. search needs)
+    returns)
