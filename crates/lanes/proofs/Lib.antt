@@ -1,4 +1,4 @@
-mod Each
+pub mod Each
 mod Rotations
 mod Rows
 mod Turns

@@ -118,28 +118,20 @@ module _ (l : Lane) where
         ∙ g
         ∙ rw (table, ← window-read x i, ← schedule-read w n i few inside e, f, rounds-add i 1 0 (schedule m) s, zero-add i)
 
-    pub word-turn : (w : List Lanes) (i : ℕ) (v : Lanes) → 0 < i → i ≤ 48 → length w ≡ 64
-        → take (16 + (i - 1)) (row l w) ≡ extend (i - 1) m
+    pub word-turn : (w : List Lanes) (i : ℕ) (v : Lanes) → 16 ≤ i → i < 64 → length w ≡ 64
+        → take (16 + (i - 16)) (row l w) ≡ extend (i - 16) m
         → lane l v
-        ≡ σ₁ (lane l (getD w (i + 13) (0, 0, 0, 0))) ⊞ lane l (getD w (i + 8) (0, 0, 0, 0)) ⊞ σ₀ (lane l (getD w i (0, 0, 0, 0)))
-        ⊞ lane l (getD w (i - 1) (0, 0, 0, 0))
-        → take (16 + i) (row l (set w (i + 15) v)) ≡ extend i m
+        ≡ σ₁ (lane l (getD w (i - 2) (0, 0, 0, 0))) ⊞ lane l (getD w (i - 7) (0, 0, 0, 0)) ⊞ σ₀ (lane l (getD w (i - 15) (0, 0, 0, 0)))
+        ⊞ lane l (getD w (i - 16) (0, 0, 0, 0))
+        → take (16 + (i + 1 - 16)) (row l (set w i v)) ≡ extend (i + 1 - 16) m
     unfolding nextWord row
     word-turn w i v low high room e f =
         let t = row l w in
-        let p2 : i + 15 - 2 ≡ i + 13 = omega arith in
-        let p7 : i + 15 - 7 ≡ i + 8 = omega arith in
-        let p15 : i + 15 - 15 ≡ i = omega arith in
-        let p16 : i + 15 - 16 ≡ i - 1 = omega arith in
-        let next : lane l v ≡ nextWord t (i + 15) =
-        rw (p2, p7, p15, p16, row-read l w (i + 13), row-read l w (i + 8), row-read l w i, row-read l w (i - 1)) f in
-        let before : take (i + 15) t ≡ extend (i + 15 - 16) m =
-        let q : i + 15 ≡ 16 + (i - 1) = omega arith in
-        rw p16 (ap (λ (k : ℕ). take k t) q ∙ e) in
-        let q : 16 + i ≡ i + 15 + 1 = omega arith in
-        let z : i + 15 + 1 - 16 ≡ i = omega arith in
-        let inside : i + 15 < length t = rw (length-row l w) (omega arith) in
-        ap (λ (u : List ℕ). take (16 + i) u) (map-set (lane l) w (i + 15) v ∙ ap (set t (i + 15)) next)
-        ∙ ap (λ (k : ℕ). take k (set t (i + 15) (nextWord t (i + 15)))) q
-        ∙ extend-step t m (i + 15) (omega arith) inside before
-        ∙ ap (λ (k : ℕ). extend k m) z
+        let next : lane l v ≡ nextWord t i =
+        rw (row-read l w (i - 2), row-read l w (i - 7), row-read l w (i - 15), row-read l w (i - 16)) f in
+        let here : 16 + (i - 16) ≡ i = omega arith in
+        let then : 16 + (i + 1 - 16) ≡ i + 1 = omega arith in
+        let inside : i < length t = rw (length-row l w) (omega arith) in
+        ap (λ (u : List ℕ). take (16 + (i + 1 - 16)) u) (map-set (lane l) w i v ∙ ap (set t i) next)
+        ∙ ap (λ (k : ℕ). take k (set t i (nextWord t i))) then
+        ∙ extend-step t m i low inside (rw here at e)

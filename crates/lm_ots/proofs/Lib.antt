@@ -1,4 +1,6 @@
+mod Buffers
 pub mod Figures
+mod Passes
 pub mod Rows
 mod StepBlock
 pub mod Widths

@@ -2,7 +2,7 @@
 -- Assumes nothing.
 use mathlib.Core.Path.{_≡_, refl, ap, _∙_}
 use mathlib.Core.List.{List, [], _∷_, _++_}
-use Prim.Native.Nat.{ℕ, suc, _+_, _-_, _*_, _/_, _%_, _^_, _≤_, _<_}
+use Prim.Native.Nat.{ℕ, zero, suc, _+_, _-_, _*_, _/_, _%_, _^_, _≤_, _<_}
 use native.Mathlib.Numerals.{add-one}
 use native.Mathlib.Omega.{arith}
 use lib.Dec.{lit≤}
@@ -12,6 +12,7 @@ use Rattle.words.proofs.Laws.{take-sets}
 use Rattle.lm_ots.specs.declared.Parameters.{Parameters}
 use Rattle.lm_ots.specs.Parameters.{row, oneTime, Listed}
 use Rattle.lm_ots.specs.Candidate.{end, ends}
+use Rattle.lm_ots.specs.Values.{valueAt}
 use Rattle.lm_ots.proofs.Widths.{width-le, pow-le, shifted-one}
 use Rattle.lm_ots.proofs.Figures.{each-known, known-width, known-follows, shift-lt, chain-digit}
 
@@ -38,11 +39,23 @@ module _ (o : Parameters) (l : Listed o) where
   pub power-below : 2 ^ o .bits ≤ 256
   power-below = pow-le (o .bits) width
 
--- one end more in a buffer
-pub ends-step : (o : Parameters) (I : List ℕ) (q : ℕ) (s y out z : List ℕ) (i : ℕ)
-    → z ≡ end o I q s y i → length z ≡ 32 → 32 * i + 32 ≤ length out → take (32 * i) out ≡ ends o I q s y i
-    → take (32 * (i + 1)) (sets out (32 * i) z) ≡ ends o I q s y (i + 1)
-unfolding ends
-ends-step o I q s y out z i e long room t =
+-- the first values of a buffer of words, one after the other
+unfoldable pub joined : List ℕ → ℕ → List ℕ
+joined v zero = []
+joined v (suc i) = joined v i ++ valueAt v i
+
+-- one value more in a buffer of bytes
+pub joined-step : (v out z : List ℕ) (i : ℕ) → z ≡ valueAt v i → length z ≡ 32 → 32 * i + 32 ≤ length out
+    → take (32 * i) out ≡ joined v i
+    → take (32 * (i + 1)) (sets out (32 * i) z) ≡ joined v (i + 1)
+unfolding joined
+joined-step v out z i e long room t =
     let next : 32 * (i + 1) ≡ 32 * i + length z = omega arith in
     rw (next, take-sets out z (32 * i) (omega arith), t, e, add-one)
+
+-- where they are the ends
+pub joined-ends : (o : Parameters) (I : List ℕ) (q : ℕ) (s y v : List ℕ) (n : ℕ) → ((k : ℕ) → k < n → valueAt v k ≡ end o I q s y k)
+    → joined v n ≡ ends o I q s y n
+unfolding joined ends
+joined-ends o I q s y v zero h = refl
+joined-ends o I q s y v (suc n) h = rw (joined-ends o I q s y v n (λ k l. h k (omega arith)), h n (omega arith))

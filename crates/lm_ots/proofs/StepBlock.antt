@@ -3,19 +3,19 @@
 -- Assumes nothing.
 use mathlib.Core.Path.{_≡_, refl, sym, ap, _∙_}
 use mathlib.Core.List.{List, [], _∷_, _++_, flatMap}
-use Prim.Native.Nat.{ℕ, zero, suc, _+_, _-_, _*_, _/_, _%_, _^_, _<_}
+use Prim.Native.Nat.{ℕ, _+_, _*_, _/_, _%_, _^_, _<_}
 use native.Mathlib.Nat.{div-one}
-use native.Mathlib.Numerals.{add-one}
 use native.Mathlib.Omega.{arith}
 use lib.ListN.{length}
 use Rattle.words.specs.BigEndian.{number, be}
 use Rattle.words.proofs.Laws.{number-append, number-be-mod, number-be}
 use Rattle.sha256.specs.declared.State.{State}
-use Rattle.sha256.specs.Sha256.{parse, padding, zeros, wordsOf, bytesOf}
+use Rattle.sha256.specs.Sha256.{initial, parse, compress, padding, zeros, wordsOf, bytesOf}
+use Rattle.sha256.proofs.Blocks.{sha256-one}
 use Rattle.lm_hash.specs.declared.Leaf.{Leaf}
 use Rattle.lm_hash.specs.Identifier.{identifier}
 use Rattle.lm_hash.specs.Tagged.{tagged}
-use Rattle.lm_ots.specs.Candidate.{chain}
+use Rattle.lm_ots.specs.Values.{stepped}
 
 -- the bytes of a number and one more
 one-more : (w x b : ℕ) → number (be w x ++ (b ∷ [])) ≡ x % 256 ^ w * 256 + b
@@ -56,11 +56,12 @@ module _ (leaf : Leaf) (i j : ℕ) (t : State)
       ∷ three-one (t .c) (t .d) hd k ∷ three-one (t .d) (t .e) he k ∷ three-one (t .e) (t .f) hf k ∷ three-one (t .f) (t .g) hg k
       ∷ three-one (t .g) (t .h) hh k ∷ one-more 3 (t .h) 128 k ∷ 0 ∷ 440 ∷ []
 
--- ---- the steps that are left
+-- ---- a step
 
-pub chain-first : (I : List ℕ) (q i j to : ℕ) (tmp : List ℕ) → j < to
-    → chain I q i (to - j) j tmp ≡ chain I q i (to - (j + 1)) (j + 1) (tagged I q i (be 1 j ++ tmp))
-unfolding chain
-chain-first I q i j to tmp h =
-    let count : to - j ≡ suc (to - (j + 1)) = omega arith in
-    rw (count, add-one)
+pub step-result : (leaf : Leaf) (i j : ℕ) (t r s : State) (b : List ℕ) → r ≡ compress s b → s ≡ initial
+    → b ≡ parse 16 ((identifier leaf ++ be 4 (leaf .q) ++ be 2 i ++ (be 1 j ++ bytesOf t)) ++ padding 55)
+    → bytesOf r ≡ stepped (identifier leaf) (leaf .q) j i (bytesOf t)
+unfolding stepped tagged
+step-result leaf i j t r s b e f g =
+    let m = identifier leaf ++ be 4 (leaf .q) ++ be 2 i ++ (be 1 j ++ bytesOf t) in
+    rw (e, f, g) (sym (sha256-one m 55 (step-length leaf i j t) (omega arith)))

@@ -1,3 +1,4 @@
 pub mod Parameters
 pub mod Digits
 pub mod Candidate
+pub mod Values

@@ -9,20 +9,10 @@ ghost use Rattle.lm_hash.specs.Identifier.{identifier};
 ghost use Rattle.lm_ots.specs.Parameters.{Listed};
 ghost use Rattle.lm_ots.specs.Candidate as rfc;
 use super::Parameters;
-use super::chain;
 use super::digits;
+use super::walk;
 use lm_hash::Leaf;
 use sha256::State;
-
-// The end of chain i: z[i], from y[i] and the digit of the chain.
-fn end(leaf: Leaf, o: Parameters, s: &[u8], y: &[u8], i: usize) -> State
-    requires { ⌜ Listed o × (length (now s) ≡ 34) × (length (now y) ≡ 32 * o .chains) × (i < o .chains) ⌝ }
-    ensures { λ r. ⌜ bytesOf r ≡ rfc.end o (identifier leaf) (leaf .q) (now (s .entry)) (now (y .entry)) i ⌝ }
-{
-    let a = digits::digit(s, o.bits, i);
-    let last = (1 << o.bits) - 1;
-    chain::chain(leaf, i as u32, a, last, lm_hash::value_at(y, 32 * i))
-}
 
 // Writes the ends of all chains, one after the other.
 fn put_ends(leaf: Leaf, o: Parameters, s: &[u8], y: &[u8], out: &mut [u8])
@@ -30,9 +20,10 @@ fn put_ends(leaf: Leaf, o: Parameters, s: &[u8], y: &[u8], out: &mut [u8])
     ensures { λ _. ⌜ take (32 * o .chains) (now (out .exit)) ≡ rfc.ends o (identifier leaf) (leaf .q) (now (s .entry)) (now (y .entry)) (o .chains) ⌝ }
 {
     let chains = o.chains;
+    let v = walk::walk(leaf, o, s, y);
     let mut i = 0;
     while i < chains {
-        lm_hash::put_value(out, 32 * i, end(leaf, o, s, y, i));
+        lm_hash::put_value(out, 32 * i, walk::value_at(&v, i));
         i += 1;
     }
 }

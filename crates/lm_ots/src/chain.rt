@@ -1,12 +1,13 @@
-// The chains of a one-time signature, in words (RFC 8554, 4.6, algorithm 4b, step 3).
+// The steps of the chains of a one-time signature, in words (RFC 8554, 4.6, algorithm 4b, step 3).
 ghost use mathlib.Core.Path.{_≡_};
 ghost use mathlib.Core.List.{_++_};
-ghost use Prim.Native.Nat.{_-_, _≤_, _<_};
+ghost use Prim.Native.Nat.{_<_};
 ghost use Rattle.words.specs.BigEndian.{be};
 ghost use Rattle.sha256.specs.Sha256.{parse, padding, bytesOf};
 ghost use Rattle.lm_hash.specs.Identifier.{identifier};
-ghost use Rattle.lm_hash.specs.Tagged.{tagged};
-ghost use Rattle.lm_ots.specs.Candidate as rfc;
+ghost use Rattle.lanes.specs.Lane.{Lane, pick, state};
+ghost use Rattle.lm_ots.specs.Values.{stepped};
+use lanes::Four;
 use lm_hash::Leaf;
 use sha256::State;
 
@@ -36,23 +37,23 @@ fn step_block(leaf: Leaf, i: u32, j: u32, t: State) -> [u32; 16]
 }
 
 // Step j of chain i.
-fn step(leaf: Leaf, i: u32, j: u32, t: State) -> State
+pub fn step(leaf: Leaf, i: u32, j: u32, t: State) -> State
     requires { ⌜ (i < 65536) × (j < 256) ⌝ }
-    ensures { λ r. ⌜ bytesOf r ≡ tagged (identifier leaf) (leaf .q) i (be 1 j ++ bytesOf t) ⌝ }
+    ensures { λ r. ⌜ bytesOf r ≡ stepped (identifier leaf) (leaf .q) j i (bytesOf t) ⌝ }
 {
     State::new().absorb(step_block(leaf, i, j, t))
 }
 
-// The steps of chain i from one number up to another.
-pub fn chain(leaf: Leaf, i: u32, from: u32, to: u32, y: State) -> State
-    requires { ⌜ (i < 65536) × (to < 256) ⌝ }
-    ensures { λ r. ⌜ bytesOf r ≡ rfc.chain (identifier leaf) (leaf .q) i (to - from) from (bytesOf y) ⌝ }
+// Step j of four chains side by side.
+pub fn four(leaf: Leaf, j: u32, i0: u32, i1: u32, i2: u32, i3: u32, t: Four) -> Four
+    requires { ⌜ ((i0 < 65536) × (i1 < 65536) × (i2 < 65536) × (i3 < 65536)) × (j < 256) ⌝ }
+    ensures { λ r. ⌜ ((l : Lane) → bytesOf (state l r) ≡ stepped (identifier leaf) (leaf .q) j (pick l i0 i1 i2 i3) (bytesOf (state l t))) ⌝ }
 {
-    let mut t = y;
-    let mut j = from;
-    while j < to {
-        t = step(leaf, i, j, t);
-        j += 1;
-    }
-    t
+    lanes::absorb(
+        State::new(),
+        step_block(leaf, i0, j, t.0),
+        step_block(leaf, i1, j, t.1),
+        step_block(leaf, i2, j, t.2),
+        step_block(leaf, i3, j, t.3),
+    )
 }

@@ -1,7 +1,7 @@
 // Digits of a hash value and their checksum (RFC 8554, 3.1.3 and 4.4).
 ghost use mathlib.Core.Path.{_≡_};
-ghost use Prim.Native.Nat.{_*_, _/_, _^_, _≤_, _<_};
-ghost use lib.ListN.{length};
+ghost use Prim.Native.Nat.{ℕ, _*_, _/_, _^_, _≤_, _<_};
+ghost use lib.ListN.{length, getD};
 ghost use Rattle.lm_ots.specs.Parameters.{messageDigits};
 ghost use Rattle.lm_ots.specs.Digits.{coef, sum, withChecksum};
 use super::Parameters;
@@ -50,4 +50,18 @@ pub fn with_checksum(q: [u8; 32], o: Parameters) -> [u8; 34]
     }
     words::put_u16(&mut s, 32, (checksum % 65536) as u16);
     s
+}
+
+// The first digits of a byte string, one for each of as many chains.
+pub fn starts(s: &[u8], bits: u32, count: usize) -> [u32; 265]
+    requires { ⌜ (bits * (8 / bits) ≡ 8) × (count ≤ 265) × ((i : ℕ) → i < count → i * bits / 8 < length (now s)) ⌝ }
+    ensures { λ r. ⌜ ((i : ℕ) → i < count → getD r i 0 ≡ coef bits (now (s .entry)) i) ⌝ }
+{
+    let mut d = [0u32; 265];
+    let mut i = 0;
+    while i < count {
+        d[i] = digit(s, bits, i);
+        i += 1;
+    }
+    d
 }

@@ -5,6 +5,7 @@ ghost use Rattle.lm_ots.specs.Parameters.{oneTime};
 pub mod candidate;
 mod chain;
 mod digits;
+mod walk;
 
 // The parameters of a one-time type: digit bits w, chains p, checksum shift ls (RFC 8554, table 1).
 pub struct Parameters {

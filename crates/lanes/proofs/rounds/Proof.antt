@@ -1,7 +1,8 @@
--- One round and one word of the schedule a turn, in each lane.
+-- One word of the schedule and one round a turn, in each lane.
 -- Assumes nothing.
 use Prim.Native.Nat.{_+_, _-_, _≤_}
 use mathlib.Core.Path.{_≡_, refl, sym, ap, _∙_}
+use mathlib.Core.Logic.{⊎-elim}
 use native.Mathlib.Omega.{arith}
 use borrow.Author.Needs.{needs}
 use lib.ListN.{length, getD, take, length-set}
@@ -15,7 +16,7 @@ use Rattle.lanes.proofs.rounds.Tie as tie
 abbrev Inv-loop : tie.InvT-loop
 Inv-loop k w₀ x₀ i₀ w x i =
     (i ≤ 64) × (length w ≡ 64) × (length x ≡ 68) × (k ≡ constants)
-    × ((l : Lane) → take (16 + (i - (i - 48))) (row l w) ≡ extend (i - (i - 48)) (take 16 (row l w₀)))
+    × ((l : Lane) → take (16 + (i - 16)) (row l w) ≡ extend (i - 16) (take 16 (row l w₀)))
     × ((l : Lane) → windowAt l x i ≡ rounds i 0 (schedule (take 16 (row l w₀))) (windowAt l x₀ 0))
     × (length w₀ ≡ 64)
 
@@ -28,28 +29,21 @@ loop-holds c = (omega arith, search needs, search needs, refl, λ l. refl, λ l.
 
 loop-again : tie.Need-loop-again Inv-loop μ-loop
 loop-again c =
-    let t = c .before .before .before .before .before .before .before .before .before .before .before .before .before .loop in
-    let n : t .i + 1 - (t .i + 1 - 48) ≡ t .i + 1 = omega arith in
-    let m : t .i - (t .i - 48) ≡ t .i + 1 - 1 = omega arith in (
-      omega arith,
-      simp length-set (t .inv .1),
-      simp length-set (t .inv .2),
-      t .inv .3,
-      λ l. rw n (word-turn l _ (first-words l _ (t .inv .6)) (t .w) (t .i + 1) _ (omega arith) (omega arith) (t .inv .1) (rw m at (t .inv .4 l)) (c .mix .ensures l)),
-      λ l. round-turn l _ (first-words l _ (t .inv .6)) _ _ (t .w) (t .x) _ (t .i) _ (t .inv .3) (omega arith) (omega arith) (omega arith) (t .inv .4 l) (t .inv .5 l) (c .before .before .before .before .before .before .step .ensures l),
-      t .inv .6,
-    )
-
-loop-again-2 : tie.Need-loop-again-2 Inv-loop μ-loop
-loop-again-2 c =
     let t = c .before .before .before .before .before .before .before .before .loop in
-    let n : t .i - (t .i - 48) ≡ t .i + 1 - (t .i + 1 - 48) = omega arith in (
+    let b = c .before .before .before .before .before .before .if1 in
+    let sized : length (b .w) ≡ 64 =
+    ⊎-elim (λ p. ap length (p .6) ∙ simp length-set (t .inv .1)) (λ p. ap length (p .1) ∙ t .inv .1) (b .came) in
+    let words : (l : Lane) → take (16 + (t .i + 1 - 16)) (row l (b .w)) ≡ extend (t .i + 1 - 16) (take 16 (row l (c .before .before .before .before .before .before .before .before .before .before .load .result))) =
+    λ l. ⊎-elim
+    (λ p. rw (p .6) (word-turn l _ (first-words l _ (t .inv .6)) (t .w) (t .i) _ (p .0 .taken) (omega arith) (t .inv .1) (t .inv .4 l) (p .5 .ensures l)))
+    (λ p. let n : t .i + 1 - 16 ≡ t .i - 16 = omega (arith, p .0 .left) in rw (p .1, n) (t .inv .4 l))
+    (b .came) in (
       omega arith,
-      t .inv .1,
+      sized,
       simp length-set (t .inv .2),
       t .inv .3,
-      λ l. rw (← n) (t .inv .4 l),
-      λ l. round-turn l _ (first-words l _ (t .inv .6)) _ _ (t .w) (t .x) _ (t .i) _ (t .inv .3) (omega arith) (omega arith) (omega arith) (t .inv .4 l) (t .inv .5 l) (c .before .step .ensures l),
+      words,
+      λ l. round-turn l _ (first-words l _ (t .inv .6)) _ _ (b .w) (t .x) _ (t .i) _ (t .inv .3) (omega arith) (omega arith) (omega arith) (words l) (t .inv .5 l) (c .step .ensures l),
       t .inv .6,
     )
 
@@ -79,10 +73,6 @@ rounds-spec =
     (λ c. omega arith)
     (λ c. omega arith)
     (λ c. omega arith)
-    (λ c. omega arith)
-    (λ c. omega arith)
-    (λ c. omega arith)
-    (λ c. omega arith)
     (λ c κs. tt)
     (λ c. omega arith)
     (λ c. omega arith)
@@ -99,14 +89,15 @@ rounds-spec =
     (λ c. omega arith)
     (λ c. omega arith)
     (λ c. omega arith)
+    (λ c. omega arith)
+    (λ c. omega arith)
     (λ c κs. tt)
+    (λ c. omega arith)
     (λ c. omega arith)
     (λ c. omega arith)
     (λ c. omega arith)
     (λ c. omega arith)
     loop-again
-    (λ c. omega arith)
-    loop-again-2
     (λ c. omega arith)
     (λ c. omega arith)
     (λ c. omega arith)
