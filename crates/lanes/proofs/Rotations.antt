@@ -1,11 +1,11 @@
 -- Rotations as chains of shifts.
 -- Assumes nothing.
-use mathlib.Core.Path.{_≡_, refl, sym, ap, _∙_}
+use mathlib.Core.Path.{_≡_, sym, ap, _∙_}
 use Prim.Native.Nat.{ℕ, _+_, _*_, _/_, _%_, _^_, _<_}
 use native.Mathlib.Nat.{mod-lt, div-le-self, lt-of-le-of-lt}
 use lib.Dec.{lit<}
 use lib.Bits.{bitXor, xor-comm, xor-lt}
-use Rattle.sha256.specs.Sha256.{rotr, shr}
+use Rattle.sha256.specs.Sha256.{rotr}
 use Rattle.sha256.proofs.Bitwise.{xor-assoc, rotr-shifts}
 
 shl-fits : (k x : ℕ) → x * 2 ^ k % 2 ^ 32 < 2 ^ 32

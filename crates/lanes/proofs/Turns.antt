@@ -1,11 +1,11 @@
 -- One round and one word of the schedule in a lane: what a turn of the loop over the rounds keeps.
 -- Assumes nothing.
-use mathlib.Core.Path.{_≡_, refl, sym, ap, _∙_}
-use mathlib.Core.List.{List, [], _∷_, _++_, map}
+use mathlib.Core.Path.{_≡_, sym, ap, _∙_}
+use mathlib.Core.List.{List, [], _∷_, map}
 use Prim.Native.Nat.{ℕ, zero, suc, _+_, _-_, _≤_, _<_}
 use native.Mathlib.Nat.{zero-add, add-zero, add-suc}
 use native.Mathlib.Omega.{arith}
-use lib.ListN.{length, getD, take, set, length-map, length-append, List·getD-append, List·getD-map}
+use lib.ListN.{length, getD, take, set, length-append, List·getD-append, List·getD-map}
 use lib.Seq.{getD-set-same, getD-set-other, getD-take, length-take-le}
 use Rattle.sha256.specs.declared.State.{State}
 use Rattle.sha256.specs.Constants.{constants}

@@ -3,7 +3,7 @@
 // The compiler makes vector instructions of four lanes only where no rotation is seen in one of them, so
 // that each sigma is a chain of shifts that begins with a left and a right shift which do not belong
 // together. With rotations, or with the two shifts of a rotation side by side, it computes lane by lane,
-// and a signature check takes twice as long (.ci/run looks at the code that was made).
+// and a signature check takes up to twice as long (.ci/run looks at the code that was made).
 ghost use mathlib.Core.Path.{_≡_};
 ghost use Rattle.sha256.specs.Sha256 as fips;
 ghost use Rattle.sha256.specs.Sha256.{_⊞_, σ₀, σ₁};

@@ -1,12 +1,11 @@
 -- Passes over the chains: what a step of some chains does to all, and what all passes come to.
 -- Assumes nothing.
-use mathlib.Core.Path.{_≡_, refl, sym, ap, _∙_}
+use mathlib.Core.Path.{_≡_, refl, ap, _∙_}
 use mathlib.Core.Bool.{Bool, true, false, cond}
 use mathlib.Core.List.{List, _++_}
 use mathlib.Core.Logic.{⊎-elim}
 use Prim.Native.Nat.{ℕ, zero, suc, _+_, _-_, _≤_, _<_}
-use native.Mathlib.Nat.{add-zero, add-suc, suc-add, eq-or-lt-of-le, le-of-suc-le-suc}
-use native.Mathlib.Numerals.{add-one}
+use native.Mathlib.Nat.{add-zero, add-suc, suc-add, eq-or-lt-of-le}
 use native.Mathlib.Omega.{arith}
 use borrow.Author.Tests.{eqb-true, eqb-false, ltb-true, ltb-false, leb-true, leb-false, lt-ltb, le-ltb, le-leb, lt-leb, eq-eqb, ne-eqb}
 use lib.Dec.{eqb, ltb, leb}
@@ -36,10 +35,10 @@ changed-other i z f k n = rw (ne-eqb k i n)
 
 -- ---- one pass
 
-pub past : {starts : List ℕ} {j p i m : ℕ} → i < p → Next starts j (i + 1) p m → i + 1 ≤ m
-past {p = p} {i = i} {m = m} l n = go (ltb m p) refl where
+pub past : {starts : List ℕ} {j from p i m : ℕ} → i < p → i < from → Next starts j from p m → i + 1 ≤ m
+past {p = p} {i = i} {m = m} l f n = go (ltb m p) refl where
   go : (t : Bool) → ltb m p ≡ t → i + 1 ≤ m
-  go true e = n .begun (ltb-true m p e) .0
+  go true e = let h = n .begun (ltb-true m p e) in omega arith
   go false e = let h = ltb-false m p e in omega arith
 
 pub four-order : {starts : List ℕ} {j p i0 i1 i2 i3 : ℕ}
@@ -130,7 +129,7 @@ module _ (I : List ℕ) (q j : ℕ) (starts : List ℕ) (p : ℕ) (f₀ : ℕ �
       let d1 = one-done f i0 i1 d l0 b0 (b1 .0) (n1 .rest) _ (was i0 (omega arith) l0) in
       let d2 = one-done _ i1 i2 d1 l1 (b1 .1) (b2 .0) (n2 .rest) _ (was i1 (omega arith) l1) in
       let d3 = one-done _ i2 i3 d2 l2 (b2 .1) (b3 .0) (n3 .rest) _ (was i2 (omega arith) l2) in
-      one-done _ i3 m d3 l3 (b3 .1) (past l3 n4) (n4 .rest) _ (was i3 (omega arith) l3)
+      one-done _ i3 m d3 l3 (b3 .1) (past l3 (omega arith) n4) (n4 .rest) _ (was i3 (omega arith) l3)
 
 -- ---- all passes
 

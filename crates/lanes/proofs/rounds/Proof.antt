@@ -5,10 +5,10 @@ use mathlib.Core.Path.{_≡_, refl, sym, ap, _∙_}
 use mathlib.Core.Logic.{⊎-elim}
 use native.Mathlib.Omega.{arith}
 use borrow.Author.Needs.{needs}
-use lib.ListN.{length, getD, take, length-set}
+use lib.ListN.{length, take, length-set}
 use Rattle.sha256.specs.Constants.{constants}
 use Rattle.sha256.specs.Sha256.{extend, schedule, rounds}
-use Rattle.lanes.specs.Lane.{Lane, pick, row, windowAt}
+use Rattle.lanes.specs.Lane.{Lane, row, windowAt}
 use Rattle.lanes.proofs.Turns.{first-words, round-turn, word-turn, window-read}
 use Rattle.lanes.proofs.rounds.Statement.{statement}
 use Rattle.lanes.proofs.rounds.Tie as tie

@@ -3,7 +3,6 @@
 use Rattle.lanes.specs.Lane.{first, second, third, fourth, pick, state}
 use Rattle.lanes.proofs.Each.{each}
 use Rattle.lm_ots.proofs.StepBlock.{step-result}
-use borrow.Author.Needs.{needs}
 use Rattle.lm_ots.proofs.chain.four.Statement.{statement}
 use Rattle.lm_ots.proofs.chain.four.Tie as tie
 

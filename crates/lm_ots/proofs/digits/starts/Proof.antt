@@ -1,13 +1,12 @@
 -- One digit a turn.
 -- Assumes nothing.
-use Prim.Native.Nat.{ℕ, _+_, _-_, _≤_, _<_}
+use Prim.Native.Nat.{ℕ, _-_, _≤_, _<_}
 use mathlib.Core.Path.{_≡_, refl, _∙_}
 use native.Mathlib.Omega.{arith}
 use lib.ListN.{length, getD, set, length-set}
 use lib.Seq.{getD-set-same, getD-set-other}
 use Rattle.lm_ots.specs.Digits.{coef}
 use Rattle.lm_ots.proofs.Passes.{one-more}
-use borrow.Author.Needs.{needs}
 use Rattle.lm_ots.proofs.digits.starts.Statement.{statement}
 use Rattle.lm_ots.proofs.digits.starts.Tie as tie
 
