@@ -1,5 +1,6 @@
 -- `wrapping_add_u32` promises the sum modulo 2^32.
 -- Assumes nothing.
+use Rattle.sha256.specs.Sha256.{_⊞_}
 use borrow.Author.Needs.{needs}
 use Rattle.sha256.proofs.functions.add.Statement.{statement}
 use Rattle.sha256.proofs.functions.add.Tie as tie
