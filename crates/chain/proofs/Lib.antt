@@ -1,4 +1,5 @@
 pub mod Injective
+pub mod Pointers
 pub mod Prefix
 pub mod Said
 pub mod Statements

@@ -2,7 +2,7 @@
 -- Assumes nothing.
 use mathlib.Core.Path.{_≡_, refl}
 use mathlib.Core.Bool.{Bool, true, false, not, cond, false≢true}
-use mathlib.Core.List.{List, [], _∷_, List·Memᴰ, List·Memᴰ·not-nil, List·Memᴰ·cases-cons}
+use mathlib.Core.List.{List, [], _∷_, _++_, List·Memᴰ, List·Memᴰ·not-nil, List·Memᴰ·cases-cons}
 use mathlib.Core.Logic.{_⊎_, inl, inr, ⊎-elim}
 use Prim.Native.Nat.{ℕ, _<_}
 use native.Mathlib.Omega.{arith}
@@ -34,6 +34,33 @@ every-mem test [] e x m = absurd (List·Memᴰ·not-nil m)
 every-mem test (y ∷ ys) e x m =
     let p = cond-true (test y) (every test ys) e in
     ⊎-elim (λ h. rw h (p .0)) (λ h. every-mem test ys (p .1) x h) (List·Memᴰ·cases-cons m)
+
+-- a test of two lists joined
+pub every-append : {A : Type 0} (test : A → Bool) (xs ys : List A) → every test (xs ++ ys) ≡ cond (every test xs) (every test ys) false
+unfolding every
+every-append test [] ys = refl
+every-append test (x ∷ xs) ys = go (test x) (every-append test xs ys)
+  where
+    go : (b : Bool) → every test (xs ++ ys) ≡ cond (every test xs) (every test ys) false
+        → cond b (every test (xs ++ ys)) false ≡ cond (cond b (every test xs) false) (every test ys) false
+    go true e = e
+    go false e = refl
+
+-- ---- one after the other: the first that fails, or the last, gives the answer
+
+module _ (b : Bool) (bs : List Bool) where
+  pub first-fails : b ≡ false → false ≡ all (b ∷ bs)
+  unfolding all
+  first-fails e = rw e
+
+  pub first-holds : {r : Bool} → b ≡ true → r ≡ all bs → r ≡ all (b ∷ bs)
+  unfolding all
+  first-holds e h = rw e h
+
+pub all-one : (b : Bool) → b ≡ all (b ∷ [])
+unfolding all
+all-one true = refl
+all-one false = refl
 
 -- ---- no check refused
 

@@ -1,14 +1,15 @@
 -- The checks 2 to 4 one after the other: the first test that fails, or the last, gives the answer.
 -- Assumes nothing.
-use mathlib.Core.Path.{_≡_, refl, sym, ap, _∙_}
+use mathlib.Core.Path.{_≡_, sym, ap, _∙_}
 use mathlib.Core.Bool.{Bool, true, false, not, cond}
-use mathlib.Core.List.{List, [], _∷_}
+use mathlib.Core.List.{List}
 use Prim.Native.Nat.{ℕ, suc, _+_, _-_, _*_, _≤_, _<_}
 use native.Mathlib.Omega.{arith}
 use borrow.Author.Tests.{not-true, not-false, le-leb, lt-leb, eq-eqb, ne-eqb}
 use lib.Dec.{eqb}
 use lib.ListN.{length}
 use Rattle.refusal.specs.Checks.{all, check, refusal}
+use Rattle.refusal.proofs.Laws.{all-one}
 use Rattle.lms.specs.Check.{keySize}
 use Rattle.roster.specs.Roster.{headSize, boards, keyOf, treeType, oneTimeType, everyBoard, sized, typed, single, rosterNumber}
 
@@ -36,12 +37,6 @@ module _ (test : ℕ → Bool) (left : ℕ) {b : Bool} (rest : everyBoard left t
   done h = let none : left ≡ 0 = omega arith in rw none at rest
 
 -- ---- 2
-
--- the last test alone
-all-one : (b : Bool) → b ≡ all (b ∷ [])
-unfolding all
-all-one true = refl
-all-one false = refl
 
 module _ (roster : List ℕ) where
   pub no-head : length roster < headSize → false ≡ sized roster

@@ -27,12 +27,12 @@ pub record Sound (form : Form) (n : ℕ) (v : View) : Type 0 where
 -- ---- as many stamps as certificates
 
 module _ (w S : ℕ) (s : List ℕ) where
-  length-certificates : (count at : ℕ) → length (certificates w S s count at) ≡ count
+  pub length-certificates : (count at : ℕ) → length (certificates w S s count at) ≡ count
   unfolding certificates
   length-certificates zero at = refl
   length-certificates (suc count) at = ap suc (length-certificates count (certificateEnd w S s at))
 
-  length-stamps : (count at : ℕ) → length (stampsAt S s count at) ≡ count
+  pub length-stamps : (count at : ℕ) → length (stampsAt S s count at) ≡ count
   unfolding stampsAt
   length-stamps zero at = refl
   length-stamps (suc count) at = ap suc (length-stamps count _)

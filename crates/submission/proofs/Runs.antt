@@ -6,7 +6,7 @@ use mathlib.Core.List.{List, [], _∷_, _++_, append-nil, List·Memᴰ, List·Me
 use mathlib.Core.Logic.{_⊎_, inl, inr, ⊎-elim}
 use Prim.Native.Nat.{ℕ, zero, suc, _+_, _≤_, _<_, zero-le}
 use native.Mathlib.Omega.{arith}
-use borrow.Author.Tests.{eqb-true, ltb-true, ltb-false}
+use borrow.Author.Tests.{eqb-true, eq-eqb, ne-eqb, ltb-true, ltb-false}
 use lib.Dec.{eqb, ltb}
 use lib.ListN.{length, take, length-append}
 use lib.Seq.{append-snoc, take-append-seam, take-at}
@@ -18,16 +18,31 @@ use Rattle.submission.specs.View.{Run, run, runsFrom, runs, runsAfter}
 -- ---- one record more
 
 -- it goes on with the run, or begins another
-next : (before upto : List Record) (s : Record) (rest : List Record)
+pub next : (before upto : List Record) (s : Record) (rest : List Record)
     → ((s .term ≡ lastTerm upto) × (runsFrom before upto (s ∷ rest) ≡ runsFrom before (upto ++ (s ∷ [])) rest))
     ⊎ (runsFrom before upto (s ∷ rest) ≡ run before upto ∷ runsFrom upto (upto ++ (s ∷ [])) rest)
 unfolding runsFrom
 next before upto s rest =
     ⊎-elim (λ e. inl (eqb-true _ _ e, rw e)) (λ e. inr (rw e)) (look (eqb (s .term) (lastTerm upto)))
 
-alone : (before upto : List Record) → runsFrom before upto [] ≡ run before upto ∷ []
+pub alone : (before upto : List Record) → runsFrom before upto [] ≡ run before upto ∷ []
 unfolding runsFrom
 alone before upto = refl
+
+-- a record of the run's term goes on with it; a record of another, or none, ends it
+pub run-goes : (before upto : List Record) (s : Record) (rest : List Record) → s .term ≡ lastTerm upto
+    → runsFrom before upto (s ∷ rest) ≡ runsFrom before (upto ++ (s ∷ [])) rest
+unfolding runsFrom
+run-goes before upto s rest e = rw (eq-eqb _ _ e)
+
+pub run-ends : (before upto : List Record) (s : Record) (rest : List Record) → (s .term ≡ lastTerm upto → ⊥)
+    → runsFrom before upto (s ∷ rest) ≡ run before upto ∷ runsAfter upto (s ∷ rest)
+unfolding runsFrom runsAfter
+run-ends before upto s rest e = rw (ne-eqb _ _ e)
+
+pub run-last : (before upto : List Record) → runsFrom before upto [] ≡ run before upto ∷ runsAfter upto []
+unfolding runsFrom runsAfter
+run-last before upto = refl
 
 -- ---- each run is a beginning of the log
 

@@ -1,0 +1,5 @@
+pub mod Said
+pub mod Signed
+pub mod Turns
+pub mod Linked
+pub mod Fifteen

@@ -1,0 +1,4 @@
+// The signatures of a submission (document 01, check 15), for version 1: terms of 4 bytes.
+pub mod receipts;
+pub mod signatures;
+pub mod stamps;
