@@ -1,6 +1,27 @@
 //! Independent implementations, std only, that the library is compared with.
+//!
+//! Written from document 01 and the RFCs alone:
+//! - `sha256`, `lms`: the two smaller services;
+//! - `roster`, `statement`, `submission`, `audit`, `program`: the audit, its report and the lines
+//!   that the program prints.
+//!
+//! What makes inputs for both sides:
+//! - `lms::sign`, `build`: keys, rosters and submissions, right or with any field wrong;
+//! - `district`: replicas that act by the board rules, and cheats, with what they can submit;
+//! - `cases`: the inputs of audit_compare; `samples`: the files that make_cases writes.
 
+pub mod audit;
+pub mod build;
+pub mod bytes;
+pub mod cases;
+pub mod district;
 pub mod hex;
 pub mod lms;
+pub mod program;
 pub mod random;
+pub mod roster;
+pub mod samples;
 pub mod sha256;
+pub mod statement;
+pub mod submission;
+pub mod verdicts;

@@ -1,5 +1,7 @@
 //! LMS keys and signatures (RFC 8554) to be checked: made from seeds, for tests only.
 
+pub mod few;
+
 use super::{inner_value, leaf_value, Leaf, OneTimeType, TreeType};
 use crate::sha256::{sha256, Digest};
 

@@ -1,0 +1,208 @@
+//! Document 01, The report: the fork, the charges by rules 1 to 4, and the report's bytes.
+
+use crate::roster::{replicas_of, Roster, MOST};
+use crate::statement::Record;
+use crate::submission::{LeaderCertificate, Run, Submission};
+use crate::verdicts::Verdicts;
+
+/// Bytes of a report.
+pub const REPORT_SIZE: usize = 53;
+
+/// What a replica's row holds: the rule it broke and the term.
+#[derive(Clone, Copy, Debug, PartialEq, Eq, PartialOrd, Ord)]
+pub struct Charge {
+    pub rule: u8,
+    pub term: u32,
+}
+
+/// What an audit finds.
+#[derive(Clone, Debug, PartialEq, Default)]
+pub struct Findings {
+    pub number: u8,
+    pub place: u8,
+    pub fork: u32,
+    /// Replica k's charge has place k - 1.
+    pub rows: [Option<Charge>; MOST],
+}
+
+impl Findings {
+    fn refused(number: u8, place: u8) -> Findings {
+        Findings { number, place, ..Findings::default() }
+    }
+
+    /// The replicas that have a charge, as bits.
+    pub fn named(&self) -> u16 {
+        (0..MOST).filter(|k| self.rows[*k].is_some()).map(|k| 1 << k).sum()
+    }
+
+    /// The 53 bytes of the report.
+    pub fn bytes(&self) -> Vec<u8> {
+        let mut bytes = vec![self.number, self.place];
+        bytes.extend(self.fork.to_be_bytes());
+        bytes.extend(self.named().to_be_bytes());
+        for row in &self.rows {
+            let Charge { rule, term } = row.unwrap_or(Charge { rule: 0, term: 0 });
+            bytes.push(rule);
+            bytes.extend(term.to_be_bytes());
+        }
+        bytes
+    }
+
+    /// The lines that the program prints.
+    pub fn lines(&self) -> String {
+        let mut lines = format!("refusal {} in {}\nfork {}\n", self.number, self.place, self.fork);
+        for (k, row) in self.rows.iter().enumerate() {
+            if let Some(Charge { rule, term }) = row {
+                lines += &format!("board {} rule {rule} term {term}\n", k + 1);
+            }
+        }
+        lines
+    }
+}
+
+/// The audit as it is called: the number, with the report written into its buffer.
+pub fn audit(
+    roster: &[u8],
+    first: &[u8],
+    second: &[u8],
+    report: &mut [u8],
+    verdicts: &mut Verdicts,
+) -> u32 {
+    if report.len() < REPORT_SIZE {
+        return 1;
+    }
+    let findings = findings(roster, first, second, verdicts);
+    report[..REPORT_SIZE].copy_from_slice(&findings.bytes());
+    findings.number as u32
+}
+
+/// What an audit with a report long enough finds.
+pub fn findings(roster: &[u8], first: &[u8], second: &[u8], verdicts: &mut Verdicts) -> Findings {
+    let roster = match Roster::read(roster) {
+        Ok(roster) => roster,
+        Err(number) => return Findings::refused(number, 0),
+    };
+    let first = match Submission::read(&roster, first, verdicts) {
+        Ok(submission) => submission,
+        Err(number) => return Findings::refused(number, 1),
+    };
+    let second = match Submission::read(&roster, second, verdicts) {
+        Ok(submission) => submission,
+        Err(number) => return Findings::refused(number, 2),
+    };
+    compare(&first, &second)
+}
+
+/// What two accepted submissions show.
+pub fn compare(first: &Submission, second: &Submission) -> Findings {
+    Findings { number: 0, place: 0, fork: fork(first, second), rows: rows(first, second) }
+}
+
+/// The lowest index, committed in both, whose records differ; 0 if there is none.
+fn fork(first: &Submission, second: &Submission) -> u32 {
+    let (Some(a), Some(b)) = (&first.commit, &second.commit) else {
+        return 0;
+    };
+    let both = a.index.min(b.index);
+    (1..=both)
+        .find(|i| first.records[*i as usize - 1] != second.records[*i as usize - 1])
+        .unwrap_or(0)
+}
+
+/// The lowest charge of each replica: the lowest rule, and for it the lowest term.
+fn rows(first: &Submission, second: &Submission) -> [Option<Charge>; MOST] {
+    let mut charges = Vec::new();
+    for (a, run_a) in first.leaders.iter().zip(first.runs()) {
+        for (b, run_b) in second.leaders.iter().zip(second.runs()) {
+            charges.extend(rule_1(a, b));
+            charges.extend(rule_2((a, run_a, &first.records), (b, run_b, &second.records)));
+        }
+    }
+    charges.extend(receipt_then_vote(3, first, second));
+    charges.extend(receipt_then_vote(4, second, first));
+
+    let mut rows = [None; MOST];
+    for (replica, charge) in charges {
+        let row = &mut rows[replica as usize - 1];
+        *row = Some(row.map_or(charge, |other: Charge| other.min(charge)));
+    }
+    rows
+}
+
+/// Rule 1: signers of both certificates, of one term with different candidates.
+fn rule_1(a: &LeaderCertificate, b: &LeaderCertificate) -> Vec<(u16, Charge)> {
+    if a.vote.term != b.vote.term || a.vote.candidate == b.vote.candidate {
+        return Vec::new();
+    }
+    let charge = Charge { rule: 1, term: a.vote.term };
+    both(a.signers, b.signers).into_iter().map(|k| (k, charge)).collect()
+}
+
+/// A leader certificate, the run of its term, and the log.
+type Leader<'a> = (&'a LeaderCertificate, Run, &'a [Record]);
+
+/// Rule 2: one replica's stamps in one term, on logs that differ up to the lower of the two.
+fn rule_2((a, run_a, log_a): Leader, (b, run_b, log_b): Leader) -> Option<(u16, Charge)> {
+    if a.vote.candidate != b.vote.candidate || a.vote.term != b.vote.term {
+        return None;
+    }
+    let lower = run_a.last.min(run_b.last);
+    let differ = (1..=lower).any(|i| log_a[i - 1] != log_b[i - 1]);
+    differ.then_some((a.vote.candidate, Charge { rule: 2, term: a.vote.term }))
+}
+
+/// Rules 3 and 4: signers of one's commit certificate and of a later vote for a staler log in the
+/// other.
+fn receipt_then_vote(rule: u8, one: &Submission, other: &Submission) -> Vec<(u16, Charge)> {
+    let Some(commit) = &one.commit else {
+        return Vec::new();
+    };
+    let (t, c) = (one.records[commit.index as usize - 1].term, commit.index);
+    let mut charges = Vec::new();
+    for leader in &other.leaders {
+        let vote = &leader.vote;
+        if vote.term > t && is_staler((vote.last_term, vote.last_index), (t, c)) {
+            let charge = Charge { rule, term: vote.term };
+            charges.extend(both(commit.signers, leader.signers).into_iter().map(|k| (k, charge)));
+        }
+    }
+    charges
+}
+
+/// Whether one end of a log, as term and index, is staler than another: term first, then index.
+pub fn is_staler(one: (u32, u32), other: (u32, u32)) -> bool {
+    one.0 < other.0 || (one.0 == other.0 && one.1 < other.1)
+}
+
+/// The replicas with bits in both masks.
+fn both(a: u16, b: u16) -> Vec<u16> {
+    replicas_of(a).into_iter().filter(|k| replicas_of(b).contains(k)).collect()
+}
+
+#[cfg(test)]
+mod tests {
+    use super::*;
+
+    /// Document 01, Bench figures: against (3, 7), (3, 6) is staler, (3, 7) and (4, 1) are not.
+    #[test]
+    fn staler() {
+        assert_eq!(
+            [(3, 6), (3, 7), (4, 1), (2, 9), (3, 8)].map(|end| is_staler(end, (3, 7))),
+            [true, false, false, true, false]
+        );
+    }
+
+    /// Each field has its place in the report.
+    #[test]
+    fn places() {
+        let mut findings =
+            Findings { number: 1, place: 2, fork: 0x03040506, ..Findings::default() };
+        findings.rows[0] = Some(Charge { rule: 9, term: 0x0a0b0c0d });
+        findings.rows[8] = Some(Charge { rule: 14, term: 0x0f101112 });
+        let mut expected = vec![1, 2, 3, 4, 5, 6, 1, 1, 9, 10, 11, 12, 13];
+        expected.extend([0; 35]);
+        expected.extend([14, 15, 16, 17, 18]);
+        assert_eq!(findings.bytes(), expected);
+        assert_eq!(expected.len(), REPORT_SIZE);
+    }
+}

@@ -1,0 +1,61 @@
+//! The library's audit, called as C does.
+
+use auditor::cases::Case;
+use std::ptr;
+
+#[link(name = "hirelog", kind = "static")]
+extern "C" {
+    fn hirelog_audit(
+        roster: *const u8,
+        roster_len: usize,
+        first: *const u8,
+        first_len: usize,
+        second: *const u8,
+        second_len: usize,
+        report: *mut u8,
+        report_len: usize,
+    ) -> u32;
+}
+
+/// Bytes kept after every report's buffer, to see that they stay as they were.
+const AFTER: usize = 64;
+
+/// The number, and the report's buffer with the bytes after it.
+#[derive(PartialEq)]
+pub struct Answer {
+    pub number: u32,
+    pub buffer: Vec<u8>,
+}
+
+/// What stands in the buffer, and after it, before a call.
+pub fn filled(report: usize) -> Vec<u8> {
+    (0..report + AFTER).map(|i| (i as u8).wrapping_mul(37) ^ 0xa5).collect()
+}
+
+/// The library's answer; with `null`, NULL for each part of no bytes.
+pub fn ask(null: bool, case: &Case) -> Answer {
+    let start = |part: &[u8]| {
+        if null && part.is_empty() {
+            ptr::null()
+        } else {
+            part.as_ptr()
+        }
+    };
+    let mut buffer = filled(case.report);
+    let report = if null && case.report == 0 { ptr::null_mut() } else { buffer.as_mut_ptr() };
+    // SAFETY: each pointer is to as many bytes as the length says, readable, and writable for the
+    // report, which overlaps none of the others.
+    let number = unsafe {
+        hirelog_audit(
+            start(case.roster),
+            case.roster.len(),
+            start(case.first),
+            case.first.len(),
+            start(case.second),
+            case.second.len(),
+            report,
+            case.report,
+        )
+    };
+    Answer { number, buffer }
+}

@@ -1,0 +1,72 @@
+//! make_cases FOLDER: writes the sample files into the folder, always the same.
+//!
+//! FOLDER/numbers: `roster`; `n00` and `n05` to `n15`, the smallest submission against it for
+//! each number; `whole`, an accepted one with every part; and `expected`, a line of name and
+//! number for each.
+//!
+//! FOLDER/NAME, for each worked pair of document 01 and a large one: `roster`, `first`, `second`,
+//! `expected` (the lines that the program `audit` prints) and `report` (the 53 bytes that the
+//! library's audit writes). They differ where a file is larger than the program's buffer.
+
+use auditor::audit::findings;
+use auditor::program;
+use auditor::samples::{cluster, pairs, submissions, Pair};
+use auditor::verdicts::Verdicts;
+use std::path::{Path, PathBuf};
+use std::{env, fs, process::exit};
+
+fn main() {
+    let arguments: Vec<String> = env::args().skip(1).collect();
+    let [folder] = &arguments[..] else {
+        eprintln!("use: make_cases FOLDER");
+        exit(2);
+    };
+    let folder = Path::new(folder);
+    let cluster = cluster();
+    let mut verdicts = Verdicts::default();
+
+    let numbers = made(folder.join("numbers"));
+    let roster = cluster.roster();
+    let none = cluster.submission(&[], &[], None).bytes();
+    write(&numbers, "roster", &roster);
+    let mut expected = String::new();
+    for (name, meant, bytes) in submissions(&cluster) {
+        let number = findings(&roster, &bytes, &none, &mut verdicts).number;
+        if number != meant {
+            eprintln!("make_cases: {name} gets {number}: make it anew in src/samples.rs");
+            exit(1);
+        }
+        expected += &format!("{name} {number}\n");
+        write(&numbers, &name, &bytes);
+    }
+    write(&numbers, "expected", expected.as_bytes());
+
+    for pair in pairs(&cluster) {
+        let Pair { folder: name, roster, first, second } = pair;
+        let folder = made(folder.join(name));
+        let lines = program::lines(Some(&roster), Some(&first), Some(&second), &mut verdicts);
+        let report = findings(&roster, &first, &second, &mut verdicts).bytes();
+        write(&folder, "roster", &roster);
+        write(&folder, "first", &first);
+        write(&folder, "second", &second);
+        write(&folder, "expected", lines.as_bytes());
+        write(&folder, "report", &report);
+    }
+    println!("make_cases: {} written", folder.display());
+}
+
+/// The folder, made if it is not there.
+fn made(folder: PathBuf) -> PathBuf {
+    fs::create_dir_all(&folder).unwrap_or_else(|error| fail(&folder, &error));
+    folder
+}
+
+fn write(folder: &Path, name: &str, bytes: &[u8]) {
+    let path = folder.join(name);
+    fs::write(&path, bytes).unwrap_or_else(|error| fail(&path, &error));
+}
+
+fn fail(path: &Path, error: &std::io::Error) -> ! {
+    eprintln!("make_cases: {}: {error}; name a folder that can be written", path.display());
+    exit(1)
+}

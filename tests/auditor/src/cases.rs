@@ -1,0 +1,211 @@
+//! The inputs of the comparison: worked figures, every refusal in every way and place, damaged
+//! submissions, and pairs of accepted ones. A seed chooses what is not fixed.
+
+pub mod accepted;
+mod change;
+mod commits;
+mod damaged;
+mod edges;
+pub mod figures;
+mod forged;
+mod layouts;
+mod leaders;
+mod order;
+mod pairs;
+mod reports;
+mod rosters;
+mod rules;
+mod signers;
+mod sizes;
+mod terms;
+
+use crate::audit::{Findings, REPORT_SIZE};
+use crate::build::{log, Cluster, Draft};
+use crate::random::Random;
+use crate::roster::mask_of;
+use std::collections::BTreeMap;
+use std::rc::Rc;
+
+/// One call of the audit.
+pub struct Case<'a> {
+    pub name: String,
+    pub roster: &'a [u8],
+    pub first: &'a [u8],
+    pub second: &'a [u8],
+    /// Bytes of the report's buffer.
+    pub report: usize,
+    pub expect: Expect,
+}
+
+/// What a case was made for.
+#[derive(Clone, Debug)]
+pub enum Expect {
+    /// Nothing in particular.
+    Any,
+    /// Number 1: the report's buffer is too short.
+    Short,
+    /// This number, in this place.
+    Number(u8, u8),
+    /// Some number, but not 0.
+    Refused,
+    /// Accepted, and these lines.
+    Lines(String),
+    /// Accepted, none of these replicas named, and somebody for a fork.
+    Honest(u16),
+}
+
+impl Expect {
+    /// Why the findings are not what the case was made for, if they are not. Nothing is found
+    /// where the report's buffer was too short.
+    pub fn broken(&self, found: Option<&Findings>) -> Option<String> {
+        let Some(found) = found else {
+            return match self {
+                Expect::Any | Expect::Short => None,
+                _ => Some(format!("made for {self:?}, and the report is too short")),
+            };
+        };
+        let kept = match self {
+            Expect::Any => true,
+            Expect::Short => false,
+            Expect::Number(number, place) => (found.number, found.place) == (*number, *place),
+            Expect::Refused => found.number != 0,
+            Expect::Lines(lines) => found.lines() == *lines,
+            Expect::Honest(honest) => {
+                found.number == 0
+                    && found.named() & honest == 0
+                    && (found.fork == 0 || found.named() != 0)
+            }
+        };
+        (!kept).then(|| format!("made for {self:?}, found {found:?}"))
+    }
+}
+
+/// The full set has the fixed seed, the small one the fresh.
+#[derive(Clone, Copy, PartialEq)]
+pub enum Size {
+    Full,
+    Small,
+}
+
+/// Every kind of case from this seed, each handed to `take`.
+pub fn run(seed: u64, size: Size, take: &mut dyn FnMut(&Case)) {
+    let mut cases = Cases {
+        label: format!("cases {seed}"),
+        random: Random::new(seed),
+        size,
+        take,
+        clusters: BTreeMap::new(),
+    };
+    cases.figures();
+    cases.missed_faults();
+    cases.rules();
+    cases.reports();
+    cases.rosters();
+    cases.sizes();
+    cases.trailers();
+    cases.layouts();
+    cases.signers();
+    cases.terms();
+    cases.leaders();
+    cases.commit_indexes();
+    cases.order();
+    cases.edges();
+    cases.accepted();
+    cases.loose_pairs();
+    cases.forged();
+    cases.districts();
+    cases.every_length();
+    cases.every_byte();
+}
+
+/// Where cases come from and where they go.
+struct Cases<'a> {
+    label: String,
+    random: Random,
+    size: Size,
+    take: &'a mut dyn FnMut(&Case),
+    clusters: BTreeMap<(usize, u32), Rc<Cluster>>,
+}
+
+impl Cases<'_> {
+    /// As many in the full set; a few of them in the small one.
+    fn count(&self, full: usize) -> usize {
+        match self.size {
+            Size::Full => full,
+            Size::Small => full.div_ceil(10),
+        }
+    }
+
+    /// All of them in the full set; some in the small one.
+    fn some<T>(&mut self, mut values: Vec<T>, few: usize) -> Vec<T> {
+        if self.size == Size::Small {
+            crate::district::shuffle(&mut values, &mut self.random);
+            values.truncate(few);
+        }
+        values
+    }
+
+    /// The cluster of n replicas with this tree type.
+    fn cluster(&mut self, n: usize, tree: u32) -> Rc<Cluster> {
+        let label = &self.label;
+        let made = || Rc::new(Cluster::new(label, n, tree));
+        self.clusters.entry((n, tree)).or_insert_with(made).clone()
+    }
+
+    /// One case with a report of 53 bytes.
+    fn case(&mut self, name: &str, roster: &[u8], first: &[u8], second: &[u8], expect: Expect) {
+        let name = name.to_string();
+        (self.take)(&Case { name, roster, first, second, report: REPORT_SIZE, expect });
+    }
+
+    /// The submission in both places, beside an empty one, gets the number; 0 has no place.
+    fn refuse(&mut self, name: &str, cluster: &Cluster, bytes: &[u8], number: u8) {
+        let (roster, empty) = (cluster.roster(), empty(cluster).bytes());
+        let place = |place| if number == 0 { 0 } else { place };
+        self.case(name, &roster, bytes, &empty, Expect::Number(number, place(1)));
+        self.case(name, &roster, &empty, bytes, Expect::Number(number, place(2)));
+    }
+
+    /// The submission in one of the places gets the number.
+    fn refuse_once(&mut self, name: &str, cluster: &Cluster, bytes: &[u8], number: u8) {
+        let place = 1 + self.random.below(2) as u8;
+        self.once(name, cluster, bytes, place, Expect::Number(number, place));
+    }
+
+    /// The submission in this place, beside an empty one.
+    fn once(&mut self, name: &str, cluster: &Cluster, bytes: &[u8], place: u8, expect: Expect) {
+        let (roster, empty) = (cluster.roster(), empty(cluster).bytes());
+        match place {
+            1 => self.case(name, &roster, bytes, &empty, expect),
+            _ => self.case(name, &roster, &empty, bytes, expect),
+        }
+    }
+
+    /// The two submissions are accepted and give these lines after `refusal 0 in 0`.
+    fn lines(&mut self, name: &str, cluster: &Cluster, first: &Draft, second: &Draft, rest: &str) {
+        let expect = Expect::Lines(format!("refusal 0 in 0\n{rest}"));
+        self.case(name, &cluster.roster(), &first.bytes(), &second.bytes(), expect);
+    }
+}
+
+/// A submission of 44 bytes.
+pub fn empty(cluster: &Cluster) -> Draft {
+    cluster.submission(&[], &[], None)
+}
+
+/// One record, its leader and its stamp.
+pub fn small(cluster: &Cluster) -> Draft {
+    cluster.submission(&log(&[(1, "a")]), &[(1, cluster.first_quorum())], None)
+}
+
+/// Two terms and a commit on a record before the last.
+pub fn whole(cluster: &Cluster) -> Draft {
+    let records = log(&[(1, "a"), (1, "b"), (3, "c")]);
+    let q = cluster.first_quorum();
+    let other = mask_of(&[cluster.n() as u16]) | (q >> 1);
+    let last = cluster.n() as u16;
+    cluster.submission(&records, &[(1, q), (last, other)], Some((2, q)))
+}
+
+#[cfg(test)]
+mod tests;

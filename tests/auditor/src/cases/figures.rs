@@ -1,0 +1,133 @@
+//! Document 01, Bench figures, and Faults a bench would miss.
+
+use super::{empty, Cases, Expect};
+use crate::build::{log, Cluster, Draft};
+use crate::cases::Case;
+
+/// n = 3, one leader, two logs (document 01's one-leader fork).
+pub fn one_leader(cluster: &Cluster) -> (Draft, Draft) {
+    let leaders = [(1, 0b011)];
+    let first = cluster.submission(&log(&[(1, "a")]), &leaders, Some((1, 0b011)));
+    let second = cluster.submission(&log(&[(1, "b")]), &leaders, Some((1, 0b101)));
+    (first, second)
+}
+
+/// n = 3, a leader elected on an empty log after a commit (document 01's stale-leader fork).
+pub fn stale_leader(cluster: &Cluster) -> (Draft, Draft) {
+    let first = cluster.submission(&log(&[(1, "a")]), &[(1, 0b011)], Some((1, 0b011)));
+    let second = cluster.submission(&log(&[(2, "b")]), &[(3, 0b110)], Some((1, 0b110)));
+    (first, second)
+}
+
+impl Cases<'_> {
+    pub fn figures(&mut self) {
+        for (n, tree) in [(3, 5), (4, 5), (9, 5), (3, 9)] {
+            let cluster = self.cluster(n, tree);
+            let submission = empty(&cluster);
+            assert_eq!(submission.bytes().len(), 44);
+            self.lines("empty twice", &cluster, &submission, &submission, "fork 0\n");
+            self.refuse("43 bytes", &cluster, &submission.bytes()[..43], 5);
+            self.refuse("43 bytes", &cluster, &submission.bytes()[1..], 5);
+            for (h, number) in [(4096, 9), (4097, 8)] {
+                let mut draft = submission.clone();
+                draft.trailer.records = h;
+                self.refuse(&format!("H = {h} in 44 bytes"), &cluster, &draft.bytes(), number);
+            }
+            for (report, expect) in [(52, Expect::Short), (53, Expect::Number(0, 0))] {
+                let (roster, bytes) = (cluster.roster(), submission.bytes());
+                (self.take)(&Case {
+                    name: format!("report of {report} bytes"),
+                    roster: &roster,
+                    first: &bytes,
+                    second: &bytes,
+                    report,
+                    expect,
+                });
+            }
+        }
+        let cluster = self.cluster(3, 5);
+        let (first, second) = one_leader(&cluster);
+        let rest = "fork 1\nboard 1 rule 2 term 1\n";
+        self.lines("one leader", &cluster, &first, &second, rest);
+        self.lines("one leader, exchanged", &cluster, &second, &first, rest);
+        let (first, second) = stale_leader(&cluster);
+        let rest = "fork 1\nboard 2 rule 3 term 2\n";
+        self.lines("stale leader", &cluster, &first, &second, rest);
+        let rest = "fork 1\nboard 2 rule 4 term 2\n";
+        self.lines("stale leader, exchanged", &cluster, &second, &first, rest);
+        self.receipt_then_votes();
+    }
+
+    /// After a receipt (3, 7), a vote in term 5 on (3, 6), (3, 7) and (4, 1).
+    fn receipt_then_votes(&mut self) {
+        let cluster = self.cluster(3, 5);
+        let seven: Vec<(u32, &str)> = ["a", "b", "c", "d", "e", "f", "g"].map(|p| (3, p)).to_vec();
+        let with = |start: &[(u32, &'static str)], end| log(&[start, &[(5, end)]].concat());
+        let first = cluster.submission(&log(&seven), &[(1, 0b011)], Some((7, 0b011)));
+        let leaders = [(1, 0b011), (3, 0b110)];
+        let second = cluster.submission(&with(&seven[..6], "x"), &leaders, None);
+        let rest = "fork 0\nboard 2 rule 3 term 5\n";
+        self.lines("vote on (3, 6)", &cluster, &first, &second, rest);
+        let second = cluster.submission(&with(&seven, "x"), &leaders, Some((8, 0b110)));
+        self.lines("vote on (3, 7)", &cluster, &first, &second, "fork 0\n");
+        // Board 2 is charged for the vote in term 4, board 1 not for that in term 5.
+        let leaders = [(3, 0b110), (3, 0b101)];
+        let second = cluster.submission(&with(&[(4, "x")], "y"), &leaders, Some((2, 0b101)));
+        let rest = "fork 1\nboard 2 rule 3 term 4\n";
+        self.lines("vote on (4, 1)", &cluster, &first, &second, rest);
+        let rest = "fork 1\nboard 2 rule 4 term 4\n";
+        self.lines("vote on (4, 1), exchanged", &cluster, &second, &first, rest);
+    }
+
+    /// The faults that document 01 names, and what is like them.
+    pub fn missed_faults(&mut self) {
+        let cluster = self.cluster(3, 5);
+        let leaders = [(1, 0b011)];
+        let one = cluster.submission(&log(&[(1, "a")]), &leaders, Some((1, 0b011)));
+        let two = cluster.submission(&log(&[(1, "a"), (1, "b")]), &leaders, Some((2, 0b101)));
+        let none = empty(&cluster);
+        for (name, a, b) in [
+            ("a log that begins the other", &one, &two),
+            ("the same, exchanged", &two, &one),
+            ("the same log twice", &two, &two),
+            ("an empty log and another", &none, &two),
+            ("another and an empty log", &two, &none),
+        ] {
+            self.lines(name, &cluster, a, b, "fork 0\n");
+        }
+        // Stamps in two different terms.
+        let later = cluster.submission(&log(&[(2, "b")]), &[(1, 0b101)], None);
+        self.lines(
+            "stamps in two terms",
+            &cluster,
+            &one,
+            &later,
+            "fork 0\nboard 1 rule 3 term 2\n",
+        );
+        let first = cluster.submission(&log(&[(1, "a")]), &leaders, None);
+        self.lines("stamps in two terms, no commit", &cluster, &first, &later, "fork 0\n");
+        // The logs part only after the lower stamp; before it; and in a term's number alone.
+        let long = log(&[(1, "a"), (1, "b"), (2, "c")]);
+        let other = log(&[(1, "a"), (2, "b"), (2, "c")]);
+        let leaders = [(1, 0b011), (1, 0b011)];
+        let long = cluster.submission(&long, &leaders, None);
+        let other = cluster.submission(&other, &leaders, None);
+        let rest = "fork 0\nboard 1 rule 2 term 2\n";
+        self.lines("parted after the lower stamp of term 1", &cluster, &long, &other, rest);
+        // One replica of two quorums voted twice; the rest of both did nothing wrong.
+        for n in 3..=9u16 {
+            let cluster = self.cluster(n as usize, 5);
+            let q = cluster.first_quorum();
+            let last = cluster.all() & !(cluster.all() >> cluster.quorum());
+            let a = cluster.submission(&log(&[(7, "a")]), &[(1, q)], None);
+            let b = cluster.submission(&log(&[(7, "b")]), &[(n, last)], None);
+            let mut rest = "fork 0\n".to_string();
+            for k in 1..=n {
+                if (q & last) >> (k - 1) & 1 == 1 {
+                    rest += &format!("board {k} rule 1 term 7\n");
+                }
+            }
+            self.lines(&format!("two quorums of {n}"), &cluster, &a, &b, &rest);
+        }
+    }
+}

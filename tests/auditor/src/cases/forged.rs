@@ -1,0 +1,215 @@
+//! Number 15: every signature spoiled, or good for something else.
+
+use super::{small, whole, Cases};
+use crate::build::{Cluster, Draft};
+use crate::roster::replicas_of;
+use crate::statement::{self, pointers, Position};
+
+/// Which signature: a vote's or a receipt's by certificate and place, or a stamp.
+#[derive(Clone, Copy, Debug)]
+enum Slot {
+    Vote(usize, usize),
+    Stamp(usize),
+    Receipt(usize),
+}
+
+impl Cases<'_> {
+    pub fn forged(&mut self) {
+        for (n, tree) in [(3, 5), (5, 5), (3, 7), (3, 9)] {
+            let cluster = self.cluster(n, tree);
+            let draft = whole(&cluster);
+            for slot in slots(&draft) {
+                self.spoiled(&cluster, &draft, slot);
+            }
+        }
+        let cluster = self.cluster(3, 5);
+        self.other_statements(&cluster);
+        self.other_places(&cluster);
+    }
+
+    /// One signature with a bit changed, another type or leaf, another signer's, or none at all.
+    fn spoiled(&mut self, cluster: &Cluster, draft: &Draft, slot: Slot) {
+        let s = cluster.signature_size();
+        let type_at = s - 4 - 32 * ((s - 1132) / 32);
+        for place in [0, 3, 4, 7, 8, type_at - 1, type_at + 3, type_at + 4, s - 1] {
+            let mut other = draft.clone();
+            signature(&mut other, slot)[place] ^= 1 << self.random.below(8);
+            let name = format!("{slot:?}, byte {place}");
+            self.forgery(&name, cluster, &other);
+        }
+        let mut other = draft.clone();
+        signature(&mut other, slot)[..4].copy_from_slice(&u32::MAX.to_be_bytes());
+        self.forgery(&format!("{slot:?}, leaf number past the tree"), cluster, &other);
+        for tree in 4..=10 {
+            let mut other = draft.clone();
+            let field = &mut signature(&mut other, slot)[type_at + 3];
+            if *field != tree {
+                *field = tree;
+                self.forgery(&format!("{slot:?}, tree type {tree}"), cluster, &other);
+            }
+        }
+        let mut other = draft.clone();
+        signature(&mut other, slot).fill(0);
+        self.forgery(&format!("{slot:?}, zero bytes"), cluster, &other);
+        for source in slots(draft) {
+            let mut other = draft.clone();
+            let copy = signature(&mut other, source).clone();
+            if *signature(&mut other, slot) != copy {
+                *signature(&mut other, slot) = copy;
+                self.forgery(&format!("{slot:?} from {source:?}"), cluster, &other);
+            }
+        }
+    }
+
+    fn forgery(&mut self, name: &str, cluster: &Cluster, draft: &Draft) {
+        if self.size == super::Size::Full || self.random.below(16) == 0 {
+            self.refuse_once(name, cluster, &draft.bytes(), 15);
+        }
+    }
+
+    /// Good signatures of the right replica, on a statement that is not the right one.
+    fn other_statements(&mut self, cluster: &Cluster) {
+        let draft = whole(cluster);
+        let right = pointers(&draft.records);
+        let at = |index: usize| Position {
+            term: draft.records[index - 1].term,
+            index: index as u32,
+            pointer: right[index],
+        };
+        let mut name = cluster.name;
+        name[15] ^= 1;
+        for (slot, index) in [(Slot::Stamp(0), 2), (Slot::Stamp(1), 3), (Slot::Receipt(0), 2)] {
+            let (signer, of): (u16, fn(&[u8; 16], &Position) -> Vec<u8>) = match slot {
+                Slot::Stamp(i) => (draft.leaders[i].vote.candidate, statement::stamp),
+                _ => (1, statement::receipt),
+            };
+            let mut messages = vec![("another cluster", of(&name, &at(index)))];
+            for other in (1..=3).filter(|other| *other != index) {
+                messages.push(("another record", of(&cluster.name, &at(other))));
+                let pointer = right[other];
+                let mixed = Position { pointer, ..at(index) };
+                messages.push(("another record's pointer", of(&cluster.name, &mixed)));
+            }
+            for term in [0, 1, 3, u32::MAX].into_iter().filter(|term| *term != at(index).term) {
+                let moved = Position { term, ..at(index) };
+                messages.push(("another term", of(&cluster.name, &moved)));
+            }
+            for other in [0, 1, 3, u32::MAX].into_iter().filter(|i| *i != index as u32) {
+                let moved = Position { index: other, ..at(index) };
+                messages.push(("another index", of(&cluster.name, &moved)));
+            }
+            for kind in [0, 1, 2, 3, 255] {
+                let mut message = of(&cluster.name, &at(index));
+                if message[0] != kind {
+                    message[0] = kind;
+                    messages.push(("another kind", message));
+                }
+            }
+            let mut longer = of(&cluster.name, &at(index));
+            longer.push(0);
+            messages.push(("one byte more", longer));
+            let shorter = of(&cluster.name, &at(index))[..56].to_vec();
+            messages.push(("one byte less", shorter));
+            for (what, message) in messages {
+                let mut other = draft.clone();
+                *signature(&mut other, slot) = cluster.sign(signer, &message);
+                self.forgery(&format!("{slot:?} on {what}"), cluster, &other);
+            }
+        }
+        for slot in [0, 1] {
+            let vote = draft.leaders[slot].vote;
+            let mut messages = vec![("another cluster", statement::vote(&name, &vote))];
+            for candidate in (0..=4).filter(|candidate| *candidate != vote.candidate) {
+                let changed = statement::Vote { candidate, ..vote };
+                messages.push(("another candidate", statement::vote(&cluster.name, &changed)));
+            }
+            let changed = statement::Vote { term: vote.term + 1, ..vote };
+            messages.push(("another term", statement::vote(&cluster.name, &changed)));
+            let changed = statement::Vote { last_term: vote.last_term + 1, ..vote };
+            messages.push(("another last term", statement::vote(&cluster.name, &changed)));
+            let changed = statement::Vote { last_index: vote.last_index + 1, ..vote };
+            messages.push(("another last index", statement::vote(&cluster.name, &changed)));
+            let changed = statement::Vote { last_pointer: right[1], ..vote };
+            messages.push(("another last pointer", statement::vote(&cluster.name, &changed)));
+            let mut kind = statement::vote(&cluster.name, &vote);
+            kind[0] = 1;
+            messages.push(("another kind", kind));
+            for (what, message) in messages {
+                for (place, signer) in replicas_of(draft.leaders[slot].signers).iter().enumerate() {
+                    let mut other = draft.clone();
+                    *signature(&mut other, Slot::Vote(slot, place)) =
+                        cluster.sign(*signer, &message);
+                    self.forgery(&format!("vote {slot} {place} on {what}"), cluster, &other);
+                }
+            }
+        }
+    }
+
+    /// Right signatures by another replica or in another order.
+    fn other_places(&mut self, cluster: &Cluster) {
+        let draft = whole(cluster);
+        for slot in 0..2 {
+            let mut other = draft.clone();
+            other.leaders[slot].signatures.swap(0, 1);
+            self.forgery("votes in falling order", cluster, &other);
+            // The certificate names other signers than those who signed.
+            let mut other = draft.clone();
+            other.leaders[slot].signers = cluster.all() & !(other.leaders[slot].signers)
+                | 1 << (other.leaders[slot].vote.candidate - 1);
+            self.forgery("another signer named", cluster, &other);
+            for signer in 1..=cluster.n() as u16 {
+                if signer != draft.leaders[slot].vote.candidate {
+                    let mut other = draft.clone();
+                    let end = [2, 3][slot];
+                    let at = Position {
+                        term: draft.records[end - 1].term,
+                        index: end as u32,
+                        pointer: pointers(&draft.records)[end],
+                    };
+                    other.stamps[slot] =
+                        cluster.sign(signer, &statement::stamp(&cluster.name, &at));
+                    self.forgery("stamp by another replica", cluster, &other);
+                }
+            }
+        }
+        let mut other = draft.clone();
+        other.stamps.swap(0, 1);
+        self.forgery("stamps exchanged", cluster, &other);
+        let mut other = draft.clone();
+        other.commit.as_mut().expect("a commit certificate").signatures.swap(0, 1);
+        self.forgery("receipts in falling order", cluster, &other);
+        for index in [1, 3] {
+            let mut other = draft.clone();
+            other.commit.as_mut().expect("a commit certificate").index = index;
+            self.forgery("receipts for another record", cluster, &other);
+        }
+        // A last record that nothing but the stamp is made on.
+        for base in [small(cluster), draft] {
+            let mut other = base;
+            other.records.last_mut().expect("a record").payload[0] ^= 1;
+            self.forgery("another last payload", cluster, &other);
+        }
+    }
+}
+
+/// Every signature of the draft.
+fn slots(draft: &Draft) -> Vec<Slot> {
+    let mut slots = Vec::new();
+    for (i, leader) in draft.leaders.iter().enumerate() {
+        slots.extend((0..leader.signatures.len()).map(|place| Slot::Vote(i, place)));
+    }
+    slots.extend((0..draft.stamps.len()).map(Slot::Stamp));
+    let receipts = draft.commit.as_ref().map_or(0, |commit| commit.signatures.len());
+    slots.extend((0..receipts).map(Slot::Receipt));
+    slots
+}
+
+fn signature(draft: &mut Draft, slot: Slot) -> &mut Vec<u8> {
+    match slot {
+        Slot::Vote(i, place) => &mut draft.leaders[i].signatures[place],
+        Slot::Stamp(i) => &mut draft.stamps[i],
+        Slot::Receipt(place) => {
+            &mut draft.commit.as_mut().expect("a commit certificate").signatures[place]
+        }
+    }
+}

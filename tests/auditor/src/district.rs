@@ -1,0 +1,296 @@
+//! A simulated district: replicas that act by document 01's board rules, honest and cheating,
+//! and the submissions that what they signed allows.
+
+mod replica;
+mod signed;
+
+use crate::build::{Cluster, Draft};
+use crate::random::Random;
+use crate::roster::{mask_of, quorum, replicas_of};
+use crate::sha256::sha256;
+use crate::statement::{pointers, Position, Record, Vote};
+use replica::{Cheats, Replica};
+use signed::Signed;
+
+/// What a submission is made of: a log, each term's candidate and signers, and a commit's index
+/// and signers.
+#[derive(Clone, Debug)]
+pub struct Claim {
+    pub records: Vec<Record>,
+    pub leaders: Vec<(u16, u16)>,
+    pub commit: Option<(u32, u16)>,
+}
+
+impl Claim {
+    pub fn draft(&self, cluster: &Cluster) -> Draft {
+        cluster.submission(&self.records, &self.leaders, self.commit)
+    }
+}
+
+/// The replicas' network has two sides; a cheat may live on both, with a state on each.
+pub struct District {
+    n: usize,
+    lives: Vec<Life>,
+    /// On each side, the life that was last elected, and on which vote.
+    leaders: [Option<(usize, Vote)>; 2],
+    signed: Signed,
+    /// Replicas whose key others have: it signs whatever is asked for, and no state is kept.
+    shared: u16,
+    /// Replicas that keep to the rules, in one life, with their key to themselves.
+    pub honest: u16,
+    /// Logs that some replica has held.
+    held: Vec<Vec<Record>>,
+    payloads: u32,
+}
+
+struct Life {
+    side: usize,
+    replica: Replica,
+}
+
+impl District {
+    /// A district that has gone on for a while; `cheats` says how many replicas may cheat.
+    pub fn simulate(n: usize, cheats: usize, random: &mut Random) -> District {
+        let lives = (1..=n as u16).map(|number| Life { side: 0, replica: Replica::new(number) });
+        let mut district = District {
+            n,
+            lives: lives.collect(),
+            leaders: [None, None],
+            signed: Signed::default(),
+            shared: 0,
+            honest: 0,
+            held: vec![Vec::new()],
+            payloads: 0,
+        };
+        let together = random.below(10);
+        district.go_on(together, random);
+        district.split(cheats, random);
+        let apart = 15 + random.below(25);
+        district.go_on(apart, random);
+        district
+    }
+
+    /// The sides part: the cheats are chosen, and every other replica is on one side.
+    fn split(&mut self, cheats: usize, random: &mut Random) {
+        let mut numbers: Vec<u16> = (1..=self.n as u16).collect();
+        shuffle(&mut numbers, random);
+        let cheating = numbers[..cheats].to_vec();
+        self.honest = mask_of(&numbers[cheats..]);
+        for (i, number) in numbers.iter().enumerate() {
+            let life = &mut self.lives[*number as usize - 1];
+            life.side = i % 2;
+            if !cheating.contains(number) {
+                continue;
+            }
+            match random.below(8) {
+                0 => life.replica.cheats.votes_twice = true,
+                1 => life.replica.cheats.votes_for_staler = true,
+                2 => life.replica.cheats.rewrites = true,
+                3 => life.replica.cheats.forgets = true,
+                4 => self.shared |= mask_of(&[*number]),
+                5 => {
+                    life.replica.cheats = Cheats {
+                        votes_twice: true,
+                        votes_for_staler: true,
+                        rewrites: true,
+                        forgets: false,
+                    }
+                }
+                _ => {
+                    let other = Life { side: 1 - life.side, replica: life.replica.clone() };
+                    self.lives.push(other);
+                }
+            }
+        }
+    }
+
+    fn go_on(&mut self, steps: usize, random: &mut Random) {
+        for _ in 0..steps {
+            let side = random.below(2);
+            match random.below(20) {
+                0..=4 => self.elect(side, random),
+                5..=18 if self.leads(side) => self.lead(side, random),
+                5..=18 => self.elect(side, random),
+                _ => self.wander(random),
+            }
+        }
+    }
+
+    /// The lives on a side that hear what is said there now.
+    fn listeners(&self, side: usize, random: &mut Random) -> Vec<usize> {
+        let mut listeners: Vec<usize> = (0..self.lives.len())
+            .filter(|i| self.lives[*i].side == side && random.below(8) != 0)
+            .collect();
+        shuffle(&mut listeners, random);
+        listeners
+    }
+
+    /// Somebody stands for election; whoever hears it votes if it may.
+    fn elect(&mut self, side: usize, random: &mut Random) {
+        let listeners = self.listeners(side, random);
+        let Some(life) = listeners.first().copied() else {
+            return;
+        };
+        let candidate = &self.lives[life].replica;
+        let (last_term, last_index) = candidate.end();
+        let term = match random.below(6) {
+            0 => candidate.term,
+            1 => candidate.term + 2,
+            _ => candidate.term + 1,
+        };
+        let last_pointer = pointers(&candidate.log)[last_index as usize];
+        let vote = Vote { candidate: candidate.number, term, last_term, last_index, last_pointer };
+        for i in listeners {
+            let replica = &mut self.lives[i].replica;
+            if replica.vote(&vote, self.n) {
+                self.signed.vote(replica.number, vote);
+            }
+        }
+        for number in replicas_of(self.shared) {
+            self.signed.vote(number, vote);
+        }
+        let voters = replicas_of(self.signed.voters(&vote));
+        if voters.len() >= quorum(self.n) && voters.contains(&vote.candidate) {
+            self.leaders[side] = Some((life, vote));
+        }
+    }
+
+    /// Whether the side's leader is still there and in its term.
+    fn leads(&self, side: usize) -> bool {
+        self.leaders[side].is_some_and(|(life, vote)| {
+            self.lives[life].side == side && self.lives[life].replica.term == vote.term
+        })
+    }
+
+    /// The side's leader adds records, stamps, and hands its log on for receipts.
+    fn lead(&mut self, side: usize, random: &mut Random) {
+        let Some((life, vote)) = self.leaders[side] else {
+            return;
+        };
+        if random.below(4) == 0 {
+            self.rewrite(life, vote, random);
+        }
+        for _ in 0..1 + random.below(2) {
+            let payload = self.payload();
+            self.lives[life].replica.add(payload);
+        }
+        // Before the stamp an honest leader may yet change its mind.
+        if random.below(5) == 0 {
+            self.hand_on(side, life, random);
+            self.rewrite(life, vote, random);
+        }
+        let replica = &mut self.lives[life].replica;
+        if let Some(at) = replica.stamp() {
+            self.signed.stamp(replica.number, at);
+        }
+        self.hand_on(side, life, random);
+    }
+
+    /// The leader puts another record in place of those of its term, if it may or cheats.
+    fn rewrite(&mut self, life: usize, vote: Vote, random: &mut Random) {
+        let payload = self.payload();
+        let replica = &mut self.lives[life].replica;
+        let own = replica.log.len().saturating_sub(vote.last_index as usize);
+        if own == 0 {
+            return;
+        }
+        let keep = replica.log.len() - 1 - random.below(own);
+        let count = replica.log.len() - keep;
+        let run: Vec<Record> = (0..count)
+            .map(|i| Record { term: replica.term, payload: shifted(payload, i) })
+            .collect();
+        replica.take(keep, &run);
+    }
+
+    /// Those who hear it take the leader's log and give receipts for its end.
+    fn hand_on(&mut self, side: usize, life: usize, random: &mut Random) {
+        let leader = self.lives[life].replica.clone();
+        self.held.push(leader.log.clone());
+        for i in self.listeners(side, random) {
+            let replica = &mut self.lives[i].replica;
+            if i != life {
+                if !replica.raise(leader.term) {
+                    continue;
+                }
+                let same = replica.log.iter().zip(&leader.log).take_while(|(a, b)| a == b).count();
+                replica.take(same, &leader.log[same..]);
+            }
+            if random.below(6) != 0 {
+                if let Some(at) = replica.receipt(replica.log.len()) {
+                    self.signed.receipt(replica.number, at);
+                }
+            }
+            self.held.push(replica.log.clone());
+        }
+        let index = leader.log.len();
+        if index > 0 {
+            let pointer = pointers(&leader.log)[index];
+            let term = leader.log[index - 1].term;
+            for number in replicas_of(self.shared) {
+                self.signed.receipt(number, Position { term, index: index as u32, pointer });
+            }
+        }
+    }
+
+    /// A replica comes to the other side, or raises its term.
+    fn wander(&mut self, random: &mut Random) {
+        let life = random.below(self.lives.len());
+        if random.below(3) == 0 {
+            let replica = &mut self.lives[life].replica;
+            replica.raise(replica.term + 1);
+        } else {
+            self.lives[life].side = 1 - self.lives[life].side;
+        }
+    }
+
+    /// A payload digest that was not used before.
+    fn payload(&mut self) -> [u8; 32] {
+        self.payloads += 1;
+        sha256(&[b"payload", &self.payloads.to_be_bytes()])
+    }
+
+    /// A claim for each log that can be submitted, with chosen signers and a chosen commit.
+    pub fn claims(&self, random: &mut Random) -> Vec<Claim> {
+        let mut logs: Vec<&[Record]> = Vec::new();
+        for log in &self.held {
+            for length in 1..=log.len() {
+                if !logs.contains(&&log[..length]) {
+                    logs.push(&log[..length]);
+                }
+            }
+        }
+        logs.into_iter().filter_map(|log| self.signed.claim(self.n, log, random)).collect()
+    }
+}
+
+/// Two of the claims, more often than not two with commits whose logs part.
+pub fn two_of<'a>(claims: &'a [Claim], random: &mut Random) -> Option<(&'a Claim, &'a Claim)> {
+    if claims.is_empty() {
+        return None;
+    }
+    let mut two = (&claims[0], &claims[0]);
+    for _ in 0..6 {
+        two = (&claims[random.below(claims.len())], &claims[random.below(claims.len())]);
+        let part = two.0.records.iter().zip(&two.1.records).any(|(a, b)| a != b);
+        if part && two.0.commit.is_some() && two.1.commit.is_some() {
+            break;
+        }
+    }
+    Some(two)
+}
+
+/// A digest for the i-th record of a run.
+fn shifted(mut payload: [u8; 32], i: usize) -> [u8; 32] {
+    payload[0] ^= i as u8;
+    payload
+}
+
+/// Puts the values into any order.
+pub fn shuffle<T>(values: &mut [T], random: &mut Random) {
+    for i in (1..values.len()).rev() {
+        values.swap(i, random.below(i + 1));
+    }
+}
+
+#[cfg(test)]
+mod tests;

@@ -1,0 +1,199 @@
+//! A replica (document 01's board): its state, and its acts by the board rules. A cheat leaves
+//! out some of the rules.
+
+use crate::audit::is_staler;
+use crate::statement::{pointers, Position, Record, Vote};
+
+/// The rules that a replica does not keep.
+#[derive(Clone, Copy, Debug, Default, PartialEq)]
+pub struct Cheats {
+    /// It votes for a second candidate in one term.
+    pub votes_twice: bool,
+    /// It votes for a candidate whose log is staler than its own.
+    pub votes_for_staler: bool,
+    /// It takes a run although it has stamped in this term.
+    pub rewrites: bool,
+    /// It loses its log when it votes.
+    pub forgets: bool,
+}
+
+#[derive(Clone, Debug)]
+pub struct Replica {
+    pub number: u16,
+    pub term: u32,
+    /// The last vote's term and candidate.
+    pub last_vote: Option<(u32, u16)>,
+    /// The last stamp's term.
+    pub last_stamp: Option<u32>,
+    pub log: Vec<Record>,
+    pub cheats: Cheats,
+}
+
+impl Replica {
+    pub fn new(number: u16) -> Replica {
+        let cheats = Cheats::default();
+        Replica { number, term: 0, last_vote: None, last_stamp: None, log: Vec::new(), cheats }
+    }
+
+    /// The term and the index of its last record; 0 and 0 for an empty log.
+    pub fn end(&self) -> (u32, u32) {
+        end_of(&self.log)
+    }
+
+    /// Raises the term, which never falls.
+    pub fn raise(&mut self, term: u32) -> bool {
+        if term < self.term {
+            return false;
+        }
+        self.term = term;
+        true
+    }
+
+    /// Votes, if it may.
+    pub fn vote(&mut self, vote: &Vote, n: usize) -> bool {
+        let twice = self.last_vote.is_some_and(|(t, c)| t == vote.term && c != vote.candidate);
+        if vote.term < self.term
+            || !(1..=n).contains(&(vote.candidate as usize))
+            || (twice && !self.cheats.votes_twice)
+        {
+            return false;
+        }
+        if self.cheats.forgets {
+            self.log.clear();
+        }
+        let staler = is_staler((vote.last_term, vote.last_index), self.end());
+        if staler && !self.cheats.votes_for_staler {
+            return false;
+        }
+        self.term = vote.term;
+        self.last_vote = Some((vote.term, vote.candidate));
+        true
+    }
+
+    /// Keeps the first records and takes a run in place of the rest, if it may.
+    pub fn take(&mut self, keep: usize, run: &[Record]) -> bool {
+        if run.is_empty() || keep > self.log.len() {
+            return false;
+        }
+        let mut log = self.log[..keep].to_vec();
+        log.extend(run);
+        let in_order = log[0].term > 0 && log.windows(2).all(|two| two[0].term <= two[1].term);
+        let own = end_of(&log).0 == self.term;
+        let stamped = self.last_stamp == Some(self.term);
+        if !in_order
+            || !own
+            || is_staler(end_of(&log), self.end())
+            || (stamped && !self.cheats.rewrites)
+        {
+            return false;
+        }
+        self.log = log;
+        true
+    }
+
+    /// Adds a record of its own term, if that is above 0.
+    pub fn add(&mut self, payload: [u8; 32]) -> bool {
+        if self.term == 0 {
+            return false;
+        }
+        self.log.push(Record { term: self.term, payload });
+        true
+    }
+
+    /// Stamps its last record, if it may.
+    pub fn stamp(&mut self) -> Option<Position> {
+        let at = self.own_record(self.log.len())?;
+        self.last_stamp = Some(self.term);
+        Some(at)
+    }
+
+    /// Gives a receipt for a record of its log, if it may.
+    pub fn receipt(&self, index: usize) -> Option<Position> {
+        self.own_record(index)
+    }
+
+    /// The record at an index, if there is one and it has the replica's own term.
+    fn own_record(&self, index: usize) -> Option<Position> {
+        let record = self.log.get(index.checked_sub(1)?)?;
+        (record.term == self.term).then(|| Position {
+            term: record.term,
+            index: index as u32,
+            pointer: pointers(&self.log)[index],
+        })
+    }
+}
+
+/// The term and the index of a log's last record.
+fn end_of(log: &[Record]) -> (u32, u32) {
+    log.last().map_or((0, 0), |record| (record.term, log.len() as u32))
+}
+
+#[cfg(test)]
+mod tests {
+    use super::*;
+
+    fn record(term: u32) -> Record {
+        Record { term, payload: [term as u8; 32] }
+    }
+
+    fn vote(candidate: u16, term: u32, (last_term, last_index): (u32, u32)) -> Vote {
+        Vote { candidate, term, last_term, last_index, last_pointer: [0; 32] }
+    }
+
+    /// In term 3, with a log that ends at (3, 2).
+    fn in_term_3() -> Replica {
+        let mut replica = Replica::new(1);
+        assert!(replica.raise(3));
+        assert!(replica.take(0, &[record(1), record(3)]));
+        replica
+    }
+
+    /// Each rule on votes, kept where a cheat is not allowed it.
+    #[test]
+    fn votes() {
+        let may = |vote: &Vote| in_term_3().vote(vote, 3);
+        assert!(may(&vote(2, 3, (3, 2))) && may(&vote(2, 9, (3, 2))));
+        assert!(may(&vote(2, 5, (4, 1))) && may(&vote(2, 5, (3, 7))));
+        assert!(!may(&vote(2, 2, (3, 2))), "its term falls");
+        assert!(!may(&vote(2, 5, (3, 1))) && !may(&vote(2, 5, (2, 9))), "a staler log");
+        assert!(!may(&vote(0, 5, (3, 2))) && !may(&vote(4, 5, (3, 2))), "no such candidate");
+        let mut replica = in_term_3();
+        assert!(replica.vote(&vote(2, 5, (3, 2)), 3) && replica.term == 5);
+        assert!(replica.vote(&vote(2, 5, (3, 2)), 3), "the same vote again");
+        assert!(!replica.vote(&vote(3, 5, (3, 2)), 3), "a second candidate");
+        replica.cheats.votes_twice = true;
+        assert!(replica.vote(&vote(3, 5, (3, 2)), 3));
+    }
+
+    /// Each rule on taking a run.
+    #[test]
+    fn runs() {
+        let may = |keep, run: &[Record]| in_term_3().take(keep, run);
+        assert!(may(1, &[record(3)]) && may(2, &[record(3)]) && may(1, &[record(2), record(3)]));
+        assert!(!may(2, &[]), "no record");
+        assert!(!may(3, &[record(3)]), "more kept than there are");
+        assert!(!may(0, &[record(3)]), "a staler end");
+        assert!(!may(1, &[record(2)]) && !may(2, &[record(4)]), "another term than its own");
+        assert!(!may(0, &[record(0), record(3)]), "term 0");
+        assert!(!may(0, &[record(2), record(1), record(3)]), "terms that fall");
+        let mut replica = in_term_3();
+        assert!(replica.stamp().is_some());
+        assert!(!replica.take(2, &[record(3)]), "it has stamped in this term");
+        assert!(replica.add([9; 32]) && replica.stamp().is_some());
+        assert!(replica.raise(4) && replica.take(2, &[record(4)]), "not in the next");
+    }
+
+    /// Stamps and receipts are for records of its own term only.
+    #[test]
+    fn stamps_and_receipts() {
+        let mut replica = in_term_3();
+        assert!(replica.receipt(1).is_none() && replica.receipt(0).is_none());
+        assert!(replica.receipt(3).is_none());
+        let at = replica.receipt(2).expect("a record of its own term");
+        assert_eq!((at.term, at.index, at.pointer), (3, 2, pointers(&replica.log)[2]));
+        assert_eq!(replica.stamp(), Some(at));
+        assert!(!replica.raise(2) && replica.raise(4));
+        assert!(replica.stamp().is_none() && replica.receipt(2).is_none());
+        assert!(!Replica::new(1).add([0; 32]), "a record of term 0");
+    }
+}

@@ -1,0 +1,110 @@
+//! Document 01, Chain and statements: pointers, and the bytes that a signature is made on.
+
+use crate::roster::Name;
+use crate::sha256::{sha256, Digest};
+
+/// Pointer 0.
+pub const POINTER_0: Digest = [0; 32];
+
+/// One record of a log.
+#[derive(Clone, Copy, Debug, PartialEq, Eq, Hash)]
+pub struct Record {
+    pub term: u32,
+    pub payload: Digest,
+}
+
+/// A vote's fields.
+#[derive(Clone, Copy, Debug, PartialEq, Eq, Hash)]
+pub struct Vote {
+    pub candidate: u16,
+    pub term: u32,
+    pub last_term: u32,
+    pub last_index: u32,
+    pub last_pointer: Digest,
+}
+
+/// A stamp's or receipt's fields.
+#[derive(Clone, Copy, Debug, PartialEq, Eq, Hash)]
+pub struct Position {
+    pub term: u32,
+    pub index: u32,
+    pub pointer: Digest,
+}
+
+/// Pointers 0 to the log's length; pointer i has place i.
+pub fn pointers(log: &[Record]) -> Vec<Digest> {
+    let mut pointers = vec![POINTER_0];
+    for (i, record) in log.iter().enumerate() {
+        let index = i as u32 + 1;
+        pointers.push(sha256(&[
+            &index.to_be_bytes(),
+            &record.term.to_be_bytes(),
+            &record.payload,
+            &pointers[i],
+        ]));
+    }
+    pointers
+}
+
+/// Kind 1: 57 bytes.
+pub fn stamp(name: &Name, at: &Position) -> Vec<u8> {
+    position(1, name, at)
+}
+
+/// Kind 2: 57 bytes.
+pub fn receipt(name: &Name, at: &Position) -> Vec<u8> {
+    position(2, name, at)
+}
+
+/// Kind 3: 63 bytes.
+pub fn vote(name: &Name, vote: &Vote) -> Vec<u8> {
+    [&[3], &name[..], &vote_fields(vote)].concat()
+}
+
+/// The 46 bytes of a vote without kind and name.
+pub fn vote_fields(vote: &Vote) -> Vec<u8> {
+    let mut bytes = vote.candidate.to_be_bytes().to_vec();
+    bytes.extend(vote.term.to_be_bytes());
+    bytes.extend(vote.last_term.to_be_bytes());
+    bytes.extend(vote.last_index.to_be_bytes());
+    bytes.extend(vote.last_pointer);
+    bytes
+}
+
+fn position(kind: u8, name: &Name, at: &Position) -> Vec<u8> {
+    let mut bytes = vec![kind];
+    bytes.extend(name);
+    bytes.extend(at.term.to_be_bytes());
+    bytes.extend(at.index.to_be_bytes());
+    bytes.extend(at.pointer);
+    bytes
+}
+
+#[cfg(test)]
+mod tests {
+    use super::*;
+
+    /// The lengths that document 01 gives.
+    #[test]
+    fn lengths() {
+        let at = Position { term: 1, index: 2, pointer: [3; 32] };
+        assert_eq!((stamp(&[0; 16], &at).len(), receipt(&[0; 16], &at).len()), (57, 57));
+        let fields =
+            Vote { candidate: 1, term: 2, last_term: 3, last_index: 4, last_pointer: [5; 32] };
+        assert_eq!((vote_fields(&fields).len(), vote(&[0; 16], &fields).len()), (46, 63));
+    }
+
+    /// Each pointer is the digest of its 72-byte chain string.
+    #[test]
+    fn chain_strings() {
+        let log = [Record { term: 1, payload: [7; 32] }, Record { term: 258, payload: [8; 32] }];
+        let pointers = pointers(&log);
+        assert_eq!(pointers[0], [0; 32]);
+        let mut string = vec![0, 0, 0, 2, 0, 0, 1, 2];
+        string.extend([8; 32]);
+        string.extend(pointers[1]);
+        assert_eq!(string.len(), 72);
+        assert_eq!(pointers[2], sha256(&[&string]));
+        assert_eq!(pointers.len(), 3);
+    }
+}

@@ -1,0 +1,220 @@
+//! Document 01, A submission: its parts, read from its trailer; numbers 5 to 15, one after the
+//! other, each over the whole submission before the next.
+
+mod layout;
+
+use crate::bytes::{array_at, u32_at};
+use crate::roster::{replicas_of, Roster};
+use crate::sha256::Digest;
+use crate::statement::{self, pointers, Position, Record, Vote};
+use crate::verdicts::Verdicts;
+
+/// Bytes of the trailer, of a record, and of a certificate before its signatures.
+pub const TRAILER_SIZE: usize = 44;
+pub const RECORD_SIZE: usize = 36;
+pub const LEADER_HEAD_SIZE: usize = 48;
+pub const COMMIT_HEAD_SIZE: usize = 6;
+
+/// The most bytes, records and terms.
+pub const MOST_BYTES: usize = 2_097_152;
+pub const MOST_RECORDS: u32 = 4096;
+pub const MOST_TERMS: u32 = 64;
+
+/// A vote's fields, the signers, and one signature per signer in rising order.
+#[derive(Clone, Debug)]
+pub struct LeaderCertificate {
+    pub vote: Vote,
+    pub signers: u16,
+    pub signatures: Vec<Vec<u8>>,
+}
+
+/// An index, the signers, and one signature per signer in rising order.
+#[derive(Clone, Debug)]
+pub struct CommitCertificate {
+    pub index: u32,
+    pub signers: u16,
+    pub signatures: Vec<Vec<u8>>,
+}
+
+/// The four parts before the trailer.
+#[derive(Debug)]
+pub struct Submission {
+    pub records: Vec<Record>,
+    pub leaders: Vec<LeaderCertificate>,
+    pub stamps: Vec<Vec<u8>>,
+    pub commit: Option<CommitCertificate>,
+}
+
+/// The trailer's fields.
+#[derive(Clone, Debug)]
+pub struct Trailer {
+    pub name: [u8; 16],
+    pub records: u32,
+    pub leaders: u32,
+    pub distances: [u32; 4],
+    pub version: u32,
+}
+
+/// A run of records of one term: the indexes of its first and its last.
+#[derive(Clone, Copy, Debug, PartialEq)]
+pub struct Run {
+    pub term: u32,
+    pub first: usize,
+    pub last: usize,
+}
+
+impl Trailer {
+    /// The trailer is the last 44 bytes.
+    fn read(bytes: &[u8]) -> Trailer {
+        let last = &bytes[bytes.len() - TRAILER_SIZE..];
+        Trailer {
+            name: array_at(last, 0),
+            records: u32_at(last, 16),
+            leaders: u32_at(last, 20),
+            distances: [24, 28, 32, 36].map(|at| u32_at(last, at)),
+            version: u32_at(last, 40),
+        }
+    }
+}
+
+impl Submission {
+    /// The submission, or the lowest of the numbers 5 to 15 that applies.
+    pub fn read(roster: &Roster, bytes: &[u8], verdicts: &mut Verdicts) -> Result<Submission, u8> {
+        // 5, size
+        if bytes.len() < TRAILER_SIZE || bytes.len() > MOST_BYTES {
+            return Err(5);
+        }
+        let trailer = Trailer::read(bytes);
+        // 6, version
+        if trailer.version != 1 {
+            return Err(6);
+        }
+        // 7, cluster
+        if trailer.name != roster.name {
+            return Err(7);
+        }
+        // 8, counts
+        if trailer.records > MOST_RECORDS || trailer.leaders > MOST_TERMS {
+            return Err(8);
+        }
+        // 9, layout
+        let submission = layout::parts(bytes, &trailer, roster.signature_size()).ok_or(9)?;
+        submission.judge(roster, verdicts)?;
+        Ok(submission)
+    }
+
+    /// Numbers 10 to 15.
+    fn judge(&self, roster: &Roster, verdicts: &mut Verdicts) -> Result<(), u8> {
+        if !self.signers_are_right(roster) {
+            return Err(10);
+        }
+        if !self.terms_are_in_order() {
+            return Err(11);
+        }
+        if self.leaders.len() != self.runs().len() {
+            return Err(12);
+        }
+        if !self.leaders_are_right(roster) {
+            return Err(13);
+        }
+        if self
+            .commit
+            .iter()
+            .any(|commit| commit.index == 0 || commit.index as usize > self.records.len())
+        {
+            return Err(14);
+        }
+        if !self.signatures_are_good(roster, verdicts) {
+            return Err(15);
+        }
+        Ok(())
+    }
+
+    /// Check 10: every certificate has at least q signers, none above replica n.
+    fn signers_are_right(&self, roster: &Roster) -> bool {
+        let leaders = self.leaders.iter().map(|leader| leader.signers);
+        let commit = self.commit.iter().map(|commit| commit.signers);
+        leaders.chain(commit).all(|mask| {
+            let signers = replicas_of(mask);
+            signers.len() >= roster.quorum() && signers.iter().all(|k| *k as usize <= roster.n())
+        })
+    }
+
+    /// Check 11: no term is 0 or below the one before.
+    fn terms_are_in_order(&self) -> bool {
+        let mut before = 0;
+        for record in &self.records {
+            if record.term == 0 || record.term < before {
+                return false;
+            }
+            before = record.term;
+        }
+        true
+    }
+
+    /// The log's runs of one term each, in log order.
+    pub fn runs(&self) -> Vec<Run> {
+        let mut runs: Vec<Run> = Vec::new();
+        for (i, record) in self.records.iter().enumerate() {
+            match runs.last_mut() {
+                Some(run) if run.term == record.term => run.last = i + 1,
+                _ => runs.push(Run { term: record.term, first: i + 1, last: i + 1 }),
+            }
+        }
+        runs
+    }
+
+    /// Check 13: every leader certificate has the fields that its term's first record asks for.
+    fn leaders_are_right(&self, roster: &Roster) -> bool {
+        let pointers = pointers(&self.records);
+        self.leaders.iter().zip(self.runs()).all(|(leader, run)| {
+            let before = run.first - 1;
+            let last_term = if before == 0 { 0 } else { self.records[before - 1].term };
+            leader.vote.term == run.term
+                && leader.vote.last_index as usize == before
+                && leader.vote.last_term == last_term
+                && leader.vote.last_pointer == pointers[before]
+                && (1..=roster.n()).contains(&(leader.vote.candidate as usize))
+                && replicas_of(leader.signers).contains(&leader.vote.candidate)
+        })
+    }
+
+    /// Check 15: votes, stamps and receipts.
+    fn signatures_are_good(&self, roster: &Roster, verdicts: &mut Verdicts) -> bool {
+        let pointers = pointers(&self.records);
+        for leader in &self.leaders {
+            let message = statement::vote(&roster.name, &leader.vote);
+            for (k, signature) in replicas_of(leader.signers).iter().zip(&leader.signatures) {
+                if !verdicts.good(roster.key(*k), &message, signature) {
+                    return false;
+                }
+            }
+        }
+        for ((leader, run), signature) in self.leaders.iter().zip(self.runs()).zip(&self.stamps) {
+            let at = self.position(&pointers, run.last);
+            let message = statement::stamp(&roster.name, &at);
+            if !verdicts.good(roster.key(leader.vote.candidate), &message, signature) {
+                return false;
+            }
+        }
+        if let Some(commit) = &self.commit {
+            let at = self.position(&pointers, commit.index as usize);
+            let message = statement::receipt(&roster.name, &at);
+            for (k, signature) in replicas_of(commit.signers).iter().zip(&commit.signatures) {
+                if !verdicts.good(roster.key(*k), &message, signature) {
+                    return false;
+                }
+            }
+        }
+        true
+    }
+
+    /// The record at an index, as a stamp or a receipt names it.
+    fn position(&self, pointers: &[Digest], index: usize) -> Position {
+        let term = self.records[index - 1].term;
+        Position { term, index: index as u32, pointer: pointers[index] }
+    }
+}
+
+#[cfg(test)]
+mod tests;

@@ -1,0 +1,28 @@
+//! Signature checks, each kept: damaged submissions leave most signatures as they were.
+
+use crate::lms::{check, Verdict};
+use std::collections::HashMap;
+
+/// A key, a message and a signature.
+type Input = (Vec<u8>, Vec<u8>, Vec<u8>);
+
+#[derive(Default)]
+pub struct Verdicts {
+    known: HashMap<Input, bool>,
+    /// How many checks were asked for.
+    pub asked: usize,
+}
+
+impl Verdicts {
+    /// Whether the signature is good.
+    pub fn good(&mut self, key: &[u8], message: &[u8], signature: &[u8]) -> bool {
+        self.asked += 1;
+        let input = (key.to_vec(), message.to_vec(), signature.to_vec());
+        *self.known.entry(input).or_insert_with(|| check(key, message, signature) == Verdict::Good)
+    }
+
+    /// How many of them were made: those not known before.
+    pub fn made(&self) -> usize {
+        self.known.len()
+    }
+}
