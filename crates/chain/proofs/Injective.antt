@@ -12,7 +12,8 @@ use Rattle.words.specs.BigEndian.{be}
 use Rattle.words.proofs.Laws.{length-be, be-injective}
 use Rattle.sha256.specs.Sha256.{sha256, bytesOf, wordsOf}
 use Rattle.chain.specs.Log.{Form, Record, chainString, pointerFrom, pointer, chainFrom, chainStrings}
-use Rattle.chain.specs.Fits.{RecordFits, LogFits, more, Apart}
+use Rattle.chain.specs.Apart.{Apart}
+use Rattle.chain.proofs.Fits.{RecordFits, LogFits, more}
 
 -- ---- fields of a known width
 

@@ -1,3 +1,4 @@
+pub mod Fits
 pub mod Injective
 pub mod Pointers
 pub mod Prefix

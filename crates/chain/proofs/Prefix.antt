@@ -9,7 +9,7 @@ use lib.ListN.{take, drop, take-append-drop, replicate}
 use Rattle.words.proofs.Laws.{pow-256-pos}
 use Rattle.sha256.specs.Sha256.{sha256}
 use Rattle.chain.specs.Log.{Form, Record, chainString, chainFrom, chainStrings, termFrom, lastTerm}
-use Rattle.chain.specs.Fits.{LogFits, empty, more}
+use Rattle.chain.proofs.Fits.{LogFits, empty, more}
 
 module _ (form : Form) where
   -- ---- chain strings

@@ -11,7 +11,8 @@ use Rattle.words.proofs.Laws.{length-be, be-injective}
 use Rattle.sha256.specs.Sha256.{sha256}
 use Rattle.chain.specs.Log.{Form, version1, Record, chainString, pointerFrom, pointer}
 use Rattle.chain.specs.Claim.{Ballot, Claim, stamped, received, voted, place, ballotBytes, say, stringsOf}
-use Rattle.chain.specs.Fits.{PlaceFits, BallotFits, ClaimFits, Apart}
+use Rattle.chain.specs.Apart.{Apart}
+use Rattle.chain.proofs.Fits.{PlaceFits, BallotFits, ClaimFits}
 use Rattle.chain.proofs.Injective.{field, length-two, length-digest, pointer-injective}
 
 module _ (form : Form) where

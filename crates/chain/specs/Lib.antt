@@ -1,3 +1,3 @@
 pub mod Log
 pub mod Claim
-pub mod Fits
+pub mod Apart

@@ -11,7 +11,8 @@ use lib.Dec.{eqb}
 use Rattle.words.proofs.Members.{joined-empty, mem-cond}
 use Rattle.chain.specs.Log.{Form, chainStrings}
 use Rattle.chain.specs.Claim.{Claim, say, stringsOf}
-use Rattle.chain.specs.Fits.{ClaimFits, Apart}
+use Rattle.chain.specs.Apart.{Apart}
+use Rattle.chain.proofs.Fits.{ClaimFits}
 use Rattle.chain.proofs.Said.{say-injective}
 use Rattle.replica.specs.Replica.{Act, first, keeps, signed, held}
 use Rattle.replica.specs.Charges.{NeverCharged, clash}

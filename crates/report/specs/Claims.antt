@@ -10,7 +10,7 @@ use Rattle.roster.specs.Roster.{boards, keyOf}
 use Rattle.roster.specs.Masks.{signer}
 use Rattle.chain.specs.Log.{Record, chainStrings}
 use Rattle.chain.specs.Claim.{say}
-use Rattle.chain.specs.Fits.{Apart}
+use Rattle.chain.specs.Apart.{Apart}
 use Rattle.replica.specs.Replica.{Act, first, keeps, signed, held}
 use Rattle.submission.specs.View.{Slot, committed}
 use Rattle.submission.specs.Validate.{formOf, viewOf, slotsOf}

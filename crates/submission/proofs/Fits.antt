@@ -22,7 +22,7 @@ use Rattle.roster.specs.Roster.{boards, signatureSize}
 use Rattle.roster.specs.Masks.{boardsOf}
 use Rattle.chain.specs.Log.{Form, Record, pointer, chainStrings, lastTerm}
 use Rattle.chain.specs.Claim.{Claim, stamped, received, voted, stringsOf}
-use Rattle.chain.specs.Fits.{LogFits, empty, more, PlaceFits, BallotFits, ClaimFits}
+use Rattle.chain.proofs.Fits.{LogFits, empty, more, PlaceFits, BallotFits, ClaimFits}
 use Rattle.chain.proofs.Prefix.{strings-take, fits-take, last-fits}
 use Rattle.chain.proofs.Said.{pointer-length}
 use Rattle.submission.specs.Trailer.{trailerAt, recordCount, distance}

@@ -1,10 +1,9 @@
--- Fields that fit their bytes (document 01, "Board rules": no act signs a term or an index that does not fit its field), and
--- the premise on SHA-256: no two different strings among some have one value.
+-- Fields that fit their bytes: what the injectivity of statements asks of a claim.
+-- Assumes nothing.
 use mathlib.Core.Path.{_≡_}
-use mathlib.Core.List.{List, [], _∷_, List·Memᴰ}
+use mathlib.Core.List.{List, [], _∷_}
 use Prim.Native.Nat.{ℕ, _^_, _<_}
 use lib.ListN.{length}
-use Rattle.sha256.specs.Sha256.{sha256}
 use Rattle.chain.specs.Log.{Form, Record}
 use Rattle.chain.specs.Claim.{Ballot, Claim, stamped, received, voted}
 
@@ -33,7 +32,3 @@ abbrev pub ClaimFits : Form → Claim → Type 0
 ClaimFits form (stamped term log) = PlaceFits form term log
 ClaimFits form (received term log) = PlaceFits form term log
 ClaimFits form (voted b) = BallotFits form b
-
--- different strings of the two collections have different SHA-256 values
-unfoldable pub Apart : List (List ℕ) → List (List ℕ) → Type 0
-Apart xs ys = (x y : List ℕ) → List·Memᴰ x xs → List·Memᴰ y ys → sha256 x ≡ sha256 y → x ≡ y
