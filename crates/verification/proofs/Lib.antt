@@ -2,4 +2,3 @@ pub mod Said
 pub mod Signed
 pub mod Turns
 pub mod Linked
-pub mod Fifteen

@@ -15,12 +15,6 @@ use Rattle.submission.specs.Reading.{ballotSize, signersAt, certificateAt, cert
 use Rattle.verification.specs.Signatures.{ballots, quorateAll}
 use Rattle.submission.proofs.Slots.{quorate-facts}
 
--- ---- a test of every element
-
-pub both-tests : (a b c : Bool) → cond (cond a b false) c false ≡ cond a (cond b c false) false
-both-tests true b c = refl
-both-tests false b c = refl
-
 -- ---- where certificates end
 
 module _ (S : ℕ) (s : List ℕ) where
