@@ -1,0 +1,98 @@
+-- The four rules over the numbers that they compare (document 01, "The report"), and the meaning of a row.
+use mathlib.Core.Bool.{Bool, not, cond}
+use mathlib.Core.List.{List, [], _∷_, _++_, map, flatMap}
+use mathlib.Core.Option.{Option, some, none}
+use Prim.Native.Nat.{ℕ}
+use lib.Dec.{eqb, leb, ltb}
+use lib.ListN.{length, take}
+use Rattle.refusal.specs.Checks.{all}
+use Rattle.roster.specs.Masks.{signer}
+use Rattle.chain.specs.Log.{Record, lastTerm}
+use Rattle.replica.specs.Ends.{staler}
+use Rattle.replica.specs.Charges.{Charge, charge}
+use Rattle.submission.specs.View.{Commit, View, Lead, leads}
+use Rattle.forensics.specs.Findings as forensics
+use Rattle.findings.specs.declared.Tenure.{Tenure}
+use Rattle.findings.specs.declared.Receipt.{Receipt}
+use Rattle.findings.specs.declared.Receipts.{Receipts}
+use Rattle.findings.specs.declared.Receipts.the-variants.{Given, Absent}
+use Rattle.findings.specs.declared.Row.{Row}
+use Rattle.findings.specs.declared.Findings.{Findings}
+
+-- ---- what the rules compare
+
+unfoldable pub tenure : Lead → Tenure
+tenure l =
+    let c = l .certificate in
+    let b = c .ballot in
+    record {
+      candidate = b .candidate;
+      term = b .term;
+      «last_term» = b .lastTerm;
+      «last_index» = b .lastIndex;
+      signers = c .signers;
+      end = length (l .term .upto);
+    }
+
+unfoldable pub tenures : View → List Tenure
+tenures v = map tenure (leads v)
+
+unfoldable pub receiptsBy : Option Commit → List Record → Receipts
+receiptsBy none log = Absent
+receiptsBy (some c) log =
+    Given (record { term = lastTerm (take (c .index) log); index = c .index; signers = c .signers })
+
+unfoldable pub receipts : View → Receipts
+receipts v = receiptsBy (v .commit) (v .log)
+
+-- ---- the rules, for board k
+
+module _ (k : ℕ) where
+  -- rule 1: a signer of leader certificates of one term with different candidates
+  unfoldable pub twoCandidates : Tenure → Tenure → Bool
+  twoCandidates x y =
+      all (
+      signer (x .signers) k ∷ signer (y .signers) k ∷ eqb (x .term) (y .term) ∷ not (eqb (x .candidate) (y .candidate)) ∷ []
+      )
+
+  -- rule 2: stamps in one term, and the logs differ first at an index (0 for none) that is not above either
+  unfoldable pub twoLogs : ℕ → Tenure → Tenure → Bool
+  twoLogs difference x y =
+      all (
+      eqb (x .candidate) k ∷ eqb (y .candidate) k ∷ eqb (x .term) (y .term) ∷ ltb 0 difference ∷ leb difference (x .end) ∷
+      leb difference (y .end) ∷ []
+      )
+
+  -- rules 3 and 4: a receipt, and a vote of a higher term for a staler log
+  unfoldable pub forgotten : Receipt → Tenure → Bool
+  forgotten r y =
+      all (
+      signer (r .signers) k ∷ signer (y .signers) k ∷ ltb (r .term) (y .term) ∷
+      staler (y .«last_term») (y .«last_index») (r .term) (r .index) ∷ []
+      )
+
+  -- the charges from a term of the first submission and one of the second
+  unfoldable pub between : ℕ → Tenure → Tenure → List Charge
+  between difference x y = charge (twoCandidates x y) 1 (x .term) ++ charge (twoLogs difference x y) 2 (x .term)
+
+  unfoldable pub amongTerms : ℕ → List Tenure → List Tenure → List Charge
+  amongTerms difference xs ys = flatMap (λ x. flatMap (between difference x) ys) xs
+
+  -- the charges from the receipts of the one and the terms of the other
+  unfoldable pub afterReceipts : ℕ → Receipts → List Tenure → List Charge
+  afterReceipts rule Absent ys = []
+  afterReceipts rule (Given r) ys = flatMap (λ y. charge (forgotten r y) rule (y .term)) ys
+
+-- all of them, from two submissions whose logs differ first at an index
+unfoldable pub ruled : ℕ → ℕ → View → View → List Charge
+ruled k difference a b =
+    amongTerms k difference (tenures a) (tenures b) ++ afterReceipts k 3 (receipts a) (tenures b)
+    ++ afterReceipts k 4 (receipts b) (tenures a)
+
+-- ---- the meaning of a row
+
+unfoldable pub chargeOf : Row → Option Charge
+chargeOf row = cond (eqb (row .rule) 0) none (some (record { rule = row .rule; term = row .term }))
+
+unfoldable pub findingsOf : Findings → forensics.Findings
+findingsOf f = record { fork = f .fork; rows = map chargeOf (f .rows) }
