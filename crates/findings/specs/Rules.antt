@@ -89,6 +89,11 @@ ruled k difference a b =
     amongTerms k difference (tenures a) (tenures b) ++ afterReceipts k 3 (receipts a) (tenures b)
     ++ afterReceipts k 4 (receipts b) (tenures a)
 
+-- the lower of the lowest charges of two lists, where there are any
+unfoldable pub least : Option Charge → Option Charge → Option Charge
+least none y = y
+least (some c) y = some (forensics.lower c y)
+
 -- ---- the meaning of a row
 
 unfoldable pub chargeOf : Row → Option Charge
