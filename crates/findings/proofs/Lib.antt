@@ -1,1 +1,3 @@
 pub mod Lowest
+pub mod Differ
+pub mod Says
