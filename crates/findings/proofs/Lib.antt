@@ -1,3 +1,5 @@
 pub mod Lowest
 pub mod Differ
 pub mod Says
+pub mod Pairs
+pub mod Rules
