@@ -5,6 +5,7 @@ use mathlib.Core.Path.{_≡_, refl, sym, ap, _∙_}
 use mathlib.Core.Bool.{Bool, true, false, not, cond}
 use mathlib.Core.List.{List, [], _∷_}
 use mathlib.Core.Logic.{⊎-elim}
+use mathlib.Core.Option.{Option, some, none}
 use Prim.Native.Nat.{ℕ, zero, suc, _+_, _≤_, _<_}
 use native.Mathlib.Omega.{arith}
 use borrow.Author.Tests.{ne-eqb, ltb-true, lt-ltb, le-leb, lt-leb}
@@ -14,7 +15,11 @@ use Rattle.refusal.specs.Checks.{all}
 use Rattle.refusal.proofs.Laws.{look, all-cons}
 use Rattle.chain.specs.Log.{Record}
 use Rattle.replica.specs.Charges.{agree, sameRecord}
-use Rattle.forensics.specs.Findings.{differAt}
+use Rattle.submission.specs.View.{Commit, View, committedBy, committed}
+use Rattle.forensics.specs.Findings.{differAt, fork}
+use Rattle.findings.specs.declared.Receipts.{Receipts}
+use Rattle.findings.specs.declared.Receipts.the-variants.{Given, Absent}
+use Rattle.findings.specs.Rules.{receiptsBy, receipts}
 
 -- ---- a difference within two lengths
 
@@ -133,3 +138,22 @@ module _ (a b : ℕ) (l m : List Record) where
       let d = differAt 1 l m in
       ap not (agree-none 0 (take a l) (take b m) ∙ ap (λ x. eqb x 0) differ-take)
       ∙ found (inBoth d a b) d (λ e. ltb-true 0 d (all-cons (ltb 0 d) (leb d a ∷ leb d b ∷ []) e .0))
+
+-- ---- the fork
+
+-- from the first difference of the logs and the receipts of both: an index that both have committed
+unfoldable pub forkOf : ℕ → Receipts → Receipts → ℕ
+forkOf d Absent y = 0
+forkOf d (Given x) Absent = 0
+forkOf d (Given x) (Given y) = cond (all (ltb 0 d ∷ leb d (x .index) ∷ leb d (y .index) ∷ [])) d 0
+
+fork-by : (o p : Option Commit) (l m : List Record)
+    → differAt 1 (committedBy o l) (committedBy p m) ≡ forkOf (differAt 1 l m) (receiptsBy o l) (receiptsBy p m)
+unfolding committedBy receiptsBy forkOf differAt
+fork-by none p l m = refl
+fork-by (some c) none l m = differ-nil 1 (take (c .index) l)
+fork-by (some c) (some e) l m = differ-take (c .index) (e .index) l m
+
+pub fork-ruled : (a b : View) → fork a b ≡ forkOf (differAt 1 (a .log) (b .log)) (receipts a) (receipts b)
+unfolding fork committed receipts
+fork-ruled a b = fork-by (a .commit) (b .commit) (a .log) (b .log)

@@ -3,3 +3,4 @@ pub mod Differ
 pub mod Says
 pub mod Pairs
 pub mod Rules
+pub mod Steps
