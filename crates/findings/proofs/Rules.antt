@@ -17,8 +17,7 @@ use Rattle.refusal.specs.Checks.{all}
 use Rattle.refusal.proofs.Laws.{all-cons, every-mem}
 use Rattle.roster.specs.Masks.{signer}
 use Rattle.chain.specs.Log.{Form, Record, lastTerm}
-use Rattle.chain.specs.Claim.{Ballot, Claim, stamped, received, voted}
-use Rattle.replica.specs.Ends.{staler}
+use Rattle.chain.specs.Claim.{Claim}
 use Rattle.replica.specs.Charges.{Charge, charge, clash, agree, twoVotes, twoStamps, staleVote}
 use Rattle.submission.specs.View.{Run, runs, Certificate, Commit, View, Lead, leadsOf, leads, slots}
 use Rattle.submission.specs.Validate.{leading, within}
@@ -29,7 +28,7 @@ use Rattle.findings.specs.declared.Receipt.{Receipt}
 use Rattle.findings.specs.Rules.{tenure, tenures, receiptsBy, receipts, twoCandidates, twoLogs, forgotten, between, amongTerms, afterReceipts, ruled, least}
 use Rattle.findings.proofs.Lowest.{lowest-append, lowest-split, lowest-both}
 use Rattle.findings.proofs.Differ.{agree-take}
-use Rattle.findings.proofs.Says.{saidIf, voteBy, stampBy, receiptBy, says-slots}
+use Rattle.findings.proofs.Says.{saidIf, vote, stamp, receipt, voter, stamper, voteBy, stampBy, receiptBy, says-slots}
 use Rattle.findings.proofs.Pairs.{over-same, over-over, over-map, pairs, by-kind, are-votes, are-stamps, are-given}
 
 -- ---- a charge with tests before it
@@ -88,8 +87,8 @@ pairs-over f ls ys = over-over (λ c. flatMap (clash c) ys) f ls
 -- ---- each rule
 
 -- all pairs of terms, where each pair is charged by a test
-abbrev Charged : (Lead → Lead → Bool) → ℕ → List Lead → List Lead → List Charge
-Charged test rule ls ms = flatMap (λ x. flatMap (λ y. charge (test x y) rule (tenure x .term)) ms) ls
+abbrev chargedBy : (Lead → Lead → Bool) → ℕ → List Lead → List Lead → List Charge
+chargedBy test rule ls ms = flatMap (λ x. flatMap (λ y. charge (test x y) rule (tenure x .term)) ms) ls
 
 -- the commit's index is within the log
 commit-within : (c : Commit) (log : List Record) → within (some c) (length log) ≡ true → length (take (c .index) log) ≡ c .index
@@ -104,23 +103,22 @@ record Standing (log : List Record) (l : Lead) : Type 0 where
 module _ (k : ℕ) where
   -- 1: of the votes
   vote-pair : (x y : Lead)
-      → cond (signer (x .certificate .signers) k) (cond (signer (y .certificate .signers) k) (clash (voted (x .certificate .ballot)) (voted (y .certificate .ballot))) []) []
+      → cond (voter k x) (cond (voter k y) (clash (vote x) (vote y)) []) []
       ≡ charge (twoCandidates k (tenure x) (tenure y)) 1 (tenure x .term)
   unfolding clash twoVotes twoCandidates tenure
   vote-pair x y = charge-after _ _ _ _ 1 _
 
   votes-ruled : (ls ms : List Lead)
-      → pairs (flatMap (voteBy k) ls) (flatMap (voteBy k) ms) ≡ Charged (λ x y. twoCandidates k (tenure x) (tenure y)) 1 ls ms
+      → pairs (flatMap (voteBy k) ls) (flatMap (voteBy k) ms) ≡ chargedBy (λ x y. twoCandidates k (tenure x) (tenure y)) 1 ls ms
   unfolding voteBy
   votes-ruled ls ms =
       pairs-over (voteBy k) ls (flatMap (voteBy k) ms)
       ∙ over-same _ _ ls (λ x mx.
-      said-left (λ y. signer (y .certificate .signers) k) (λ y. voted (y .certificate .ballot)) ms _ _ ∙ over-same _ _ ms (λ y my. vote-pair x y))
+      said-left (voter k) vote ms (voter k x) (vote x) ∙ over-same _ _ ms (λ y my. vote-pair x y))
 
   -- 2: of the stamps
   stamp-pair : (l m : List Record) (x y : Lead) → Standing l x → Standing m y
-      → cond (eqb (x .certificate .ballot .candidate) k) (cond (eqb (y .certificate .ballot .candidate) k)
-      (clash (stamped (lastTerm (x .term .upto)) (x .term .upto)) (stamped (lastTerm (y .term .upto)) (y .term .upto))) []) []
+      → cond (stamper k x) (cond (stamper k y) (clash (stamp x) (stamp y)) []) []
       ≡ charge (twoLogs k (differAt 1 l m) (tenure x) (tenure y)) 2 (tenure x .term)
   unfolding clash twoStamps twoLogs tenure all
   stamp-pair l m x y sx sy =
@@ -131,53 +129,51 @@ module _ (k : ℕ) where
       let differ : not (agree (x .term .upto) (y .term .upto)) ≡ inside = rw (sx .begins, sy .begins) at (agree-take a b l m) in
       let one-term = eqb (lastTerm (x .term .upto)) (lastTerm (y .term .upto)) in
       rw (differ, sx .term, sy .term)
-      (charge-tests (eqb (x .certificate .ballot .candidate) k) (eqb (y .certificate .ballot .candidate) k) (cond one-term inside false) 2 (lastTerm (x .term .upto)))
+      (charge-tests (stamper k x) (stamper k y) (cond one-term inside false) 2 (lastTerm (x .term .upto)))
 
   stamps-ruled : (l m : List Record) (ls ms : List Lead) → ((x : Lead) → List·Memᴰ x ls → Standing l x) → ((y : Lead) → List·Memᴰ y ms → Standing m y)
-      → pairs (flatMap (stampBy k) ls) (flatMap (stampBy k) ms) ≡ Charged (λ x y. twoLogs k (differAt 1 l m) (tenure x) (tenure y)) 2 ls ms
+      → pairs (flatMap (stampBy k) ls) (flatMap (stampBy k) ms) ≡ chargedBy (λ x y. twoLogs k (differAt 1 l m) (tenure x) (tenure y)) 2 ls ms
   unfolding stampBy
   stamps-ruled l m ls ms sx sy =
       pairs-over (stampBy k) ls (flatMap (stampBy k) ms)
       ∙ over-same _ _ ls (λ x mx.
-      said-left (λ y. eqb (y .certificate .ballot .candidate) k) (λ y. stamped (lastTerm (y .term .upto)) (y .term .upto)) ms _ _
+      said-left (stamper k) stamp ms (stamper k x) (stamp x)
       ∙ over-same _ _ ms (λ y my. stamp-pair l m x y (sx x mx) (sy y my)))
 
   -- 3 and 4: of the receipts and the votes
   module _ (c : Commit) (log : List Record) (held : length (take (c .index) log) ≡ c .index) where
-    unfoldable receipt : Receipt
-    receipt = record { term = lastTerm (take (c .index) log); index = c .index; signers = c .signers }
+    unfoldable numbers : Receipt
+    numbers = record { term = lastTerm (take (c .index) log); index = c .index; signers = c .signers }
 
     stale-pair : (rule : ℕ) (y : Lead)
-        → cond (signer (c .signers) k) (cond (signer (y .certificate .signers) k)
+        → cond (signer (c .signers) k) (cond (voter k y)
         (charge (staleVote (lastTerm (take (c .index) log)) (take (c .index) log) (y .certificate .ballot)) rule (y .certificate .ballot .term)) []) []
-        ≡ charge (forgotten k receipt (tenure y)) rule (tenure y .term)
-    unfolding staleVote forgotten tenure receipt
+        ≡ charge (forgotten k numbers (tenure y)) rule (tenure y .term)
+    unfolding staleVote forgotten tenure numbers
     stale-pair rule y = rw held (charge-after _ _ _ _ rule _)
 
   given-ruled : (o : Option Commit) (log : List Record) (ms : List Lead) → within o (length log) ≡ true
       → pairs (receiptBy k o log) (flatMap (voteBy k) ms) ≡ afterReceipts k 3 (receiptsBy o log) (map tenure ms)
-  unfolding receiptBy receiptsBy afterReceipts voteBy pairs flatMap clash receipt
+  unfolding receiptBy receiptsBy afterReceipts voteBy pairs flatMap clash numbers
   given-ruled none log ms e = refl
   given-ruled (some c) log ms e =
-      said-left (λ y. signer (y .certificate .signers) k) (λ y. voted (y .certificate .ballot)) ms _ _
+      said-left (voter k) vote ms (signer (c .signers) k) (receipt c log)
       ∙ over-same _ _ ms (λ y m. stale-pair c log (commit-within c log e) 3 y) ∙ sym (over-map _ tenure ms)
 
   votes-given : (o : Option Commit) (log : List Record) (ms : List Lead) → within o (length log) ≡ true
       → pairs (flatMap (voteBy k) ms) (receiptBy k o log) ≡ afterReceipts k 4 (receiptsBy o log) (map tenure ms)
-  unfolding receiptBy receiptsBy afterReceipts voteBy pairs flatMap clash receipt
+  unfolding receiptBy receiptsBy afterReceipts voteBy pairs flatMap clash numbers
   votes-given none log ms e = joined-empty _ (flatMap (voteBy k) ms) (λ d m. refl)
   votes-given (some c) log ms e =
-      let upto = take (c .index) log in
-      said-right (λ y. signer (y .certificate .signers) k) (λ y. voted (y .certificate .ballot)) ms (signer (c .signers) k) (received (lastTerm upto) upto)
+      said-right (voter k) vote ms (signer (c .signers) k) (receipt c log)
       ∙ over-same _ _ ms (λ y m.
-      tests-swap (signer (y .certificate .signers) k) (signer (c .signers) k) (clash (voted (y .certificate .ballot)) (received (lastTerm upto) upto))
-      ∙ stale-pair c log (commit-within c log e) 4 y)
+      tests-swap (voter k y) (signer (c .signers) k) (clash (vote y) (receipt c log)) ∙ stale-pair c log (commit-within c log e) 4 y)
       ∙ sym (over-map _ tenure ms)
 
   -- 1 and 2 together, term by term
   terms-ruled : (d : ℕ) (ls ms : List Lead)
       → lowest (amongTerms k d (map tenure ls) (map tenure ms))
-      ≡ least (lowest (Charged (λ x y. twoCandidates k (tenure x) (tenure y)) 1 ls ms)) (lowest (Charged (λ x y. twoLogs k d (tenure x) (tenure y)) 2 ls ms))
+      ≡ least (lowest (chargedBy (λ x y. twoCandidates k (tenure x) (tenure y)) 1 ls ms)) (lowest (chargedBy (λ x y. twoLogs k d (tenure x) (tenure y)) 2 ls ms))
   unfolding amongTerms between
   terms-ruled d ls ms =
       ap lowest (over-map (λ x. flatMap (between k d x) (map tenure ms)) tenure ls ∙ over-same _ _ ls (λ x m. over-map (between k d (tenure x)) tenure ms))
@@ -213,8 +209,8 @@ module _ (form : Form) (n S k : ℕ) (some-board : 0 < k) (few : k ≤ 16) (a b 
       let d = differAt 1 (a .log) (b .log) in
       least
       (least
-      (least (lowest (Charged (λ x y. twoCandidates k (tenure x) (tenure y)) 1 (leads a) (leads b)))
-      (lowest (Charged (λ x y. twoLogs k d (tenure x) (tenure y)) 2 (leads a) (leads b))))
+      (least (lowest (chargedBy (λ x y. twoCandidates k (tenure x) (tenure y)) 1 (leads a) (leads b)))
+      (lowest (chargedBy (λ x y. twoLogs k d (tenure x) (tenure y)) 2 (leads a) (leads b))))
       (lowest (afterReceipts k 3 (receiptsBy (a .commit) (a .log)) (map tenure (leads b)))))
       (lowest (afterReceipts k 4 (receiptsBy (b .commit) (b .log)) (map tenure (leads a))))
 

@@ -1,7 +1,7 @@
 -- What board k says in a submission, certificate by certificate: a certificate has one signature for each one of its mask, in rising order,
 -- and so board k says its claim once where bit k - 1 is a one, and otherwise not at all.
 -- Assumes nothing.
-use mathlib.Core.Path.{_≡_, refl, sym, ap, _∙_}
+use mathlib.Core.Path.{_≡_, refl, ap, _∙_}
 use mathlib.Core.Bool.{Bool, true, false, cond}
 use mathlib.Core.List.{List, [], _∷_, _++_, map, flatMap}
 use mathlib.Core.Logic.{⊎-elim}
@@ -82,30 +82,44 @@ module _ (S : ℕ) (claim : Claim) where
 
 -- ---- a submission
 
+-- what stands in a term's leader certificate, under its stamp, and in a commit certificate
+abbrev pub vote : Lead → Claim
+vote l = voted (l .certificate .ballot)
+
+abbrev pub stamp : Lead → Claim
+stamp l = let upto = l .term .upto in stamped (lastTerm upto) upto
+
+abbrev pub receipt : Commit → List Record → Claim
+receipt c log = let upto = take (c .index) log in received (lastTerm upto) upto
+
 module _ (k : ℕ) where
-  -- a vote in the term's leader certificate
+  -- board k is a signer of a term's leader certificate, of its stamp
+  abbrev pub voter : Lead → Bool
+  voter l = signer (l .certificate .signers) k
+
+  abbrev pub stamper : Lead → Bool
+  stamper l = eqb (l .certificate .ballot .candidate) k
+
+  -- what it says there, and in a commit certificate
   unfoldable pub voteBy : Lead → List Claim
-  voteBy l = let c = l .certificate in saidIf (signer (c .signers) k) (voted (c .ballot))
+  voteBy l = saidIf (voter l) (vote l)
 
-  -- the term's stamp
   unfoldable pub stampBy : Lead → List Claim
-  stampBy l = let upto = l .term .upto in saidIf (eqb (l .certificate .ballot .candidate) k) (stamped (lastTerm upto) upto)
+  stampBy l = saidIf (stamper l) (stamp l)
 
-  -- a receipt in the commit certificate
   unfoldable pub receiptBy : Option Commit → List Record → List Claim
   receiptBy none log = []
-  receiptBy (some c) log = let upto = take (c .index) log in saidIf (signer (c .signers) k) (received (lastTerm upto) upto)
+  receiptBy (some c) log = saidIf (signer (c .signers) k) (receipt c log)
 
   module _ (S : ℕ) where
     pub says-stamps : (ls : List Lead) → says k (map (stampOf S) ls) ≡ flatMap stampBy ls
     unfolding says stampOf slot stampBy saidIf flatMap
     says-stamps [] = refl
     says-stamps (l ∷ ls) =
-        let b = eqb (l .certificate .ballot .candidate) k in
         ⊎-elim
-        (λ (e : b ≡ true). rw e (ap (λ z. stamped (lastTerm (l .term .upto)) (l .term .upto) ∷ z) (says-stamps ls)))
-        (λ (e : b ≡ false). rw e (says-stamps ls))
-        (look b)
+        (λ (e : stamper l ≡ true). rw e (ap (λ z. stamp l ∷ z) (says-stamps ls)))
+        (λ (e : stamper l ≡ false). rw e (says-stamps ls))
+        (look (stamper l))
 
     module _ (some-board : 0 < k) (few : k ≤ 16) where
       pub says-votes : (ls : List Lead) → says k (flatMap (votesOf S) ls) ≡ flatMap voteBy ls
@@ -114,13 +128,13 @@ module _ (k : ℕ) where
       says-votes (l ∷ ls) =
           let c = l .certificate in
           says-append k (votesOf S l) (flatMap (votesOf S) ls)
-          ∙ ap (λ z. z ++ says k (flatMap (votesOf S) ls)) (says-certified S (voted (c .ballot)) k (c .signers) (c .signatures) some-board few)
+          ∙ ap (λ z. z ++ says k (flatMap (votesOf S) ls)) (says-certified S (vote l) k (c .signers) (c .signatures) some-board few)
           ∙ ap (λ z. voteBy l ++ z) (says-votes ls)
 
       pub says-receipts : (o : Option Commit) (log : List Record) → says k (receiptsOf S o log) ≡ receiptBy o log
       unfolding receiptsOf receiptBy says
       says-receipts none log = refl
-      says-receipts (some c) log = says-certified S _ k (c .signers) (c .signatures) some-board few
+      says-receipts (some c) log = says-certified S (receipt c log) k (c .signers) (c .signatures) some-board few
 
       -- all that it says, in layout order
       pub says-slots : (v : View)
@@ -129,4 +143,11 @@ module _ (k : ℕ) where
       says-slots v =
           let votes = flatMap (votesOf S) (leads v) in
           let stamps = map (stampOf S) (leads v) in
-          rw (says-append k (votes ++ stamps) (receiptsOf S (v .commit) (v .log)), says-append k votes stamps, says-votes (leads v), says-stamps (leads v), says-receipts (v .commit) (v .log))
+          let given = receiptsOf S (v .commit) (v .log) in
+          rw (
+            says-append k (votes ++ stamps) given,
+            says-append k votes stamps,
+            says-votes (leads v),
+            says-stamps (leads v),
+            says-receipts (v .commit) (v .log),
+          )
