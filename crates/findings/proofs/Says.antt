@@ -31,11 +31,6 @@ says-append k (x ∷ xs) ys =
     (λ (e : eqb (x .board) k ≡ false). rw e (says-append k xs ys))
     (look (eqb (x .board) k))
 
-pub says-over : {A : Type 0} (k : ℕ) (f : A → List Slot) (xs : List A) → says k (flatMap f xs) ≡ flatMap (λ x. says k (f x)) xs
-unfolding says flatMap
-says-over k f [] = refl
-says-over k f (x ∷ xs) = says-append k (f x) (flatMap f xs) ∙ ap (λ z. says k (f x) ++ z) (says-over k f xs)
-
 -- ---- a certificate
 
 -- the claim, where the test holds
