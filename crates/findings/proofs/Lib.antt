@@ -4,3 +4,5 @@ pub mod Says
 pub mod Pairs
 pub mod Rules
 pub mod Steps
+pub mod Broken
+pub mod Charged
