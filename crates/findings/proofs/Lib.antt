@@ -6,3 +6,6 @@ pub mod Rules
 pub mod Steps
 pub mod Broken
 pub mod Charged
+pub mod Ended
+pub mod Left
+pub mod Committed

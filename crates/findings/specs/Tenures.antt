@@ -6,16 +6,15 @@ use Rattle.submission.specs.Trailer.{recordCount, leaderCount}
 use Rattle.submission.specs.Reading.{ballotSize, ballotAt, signersAt, certificateEnd, leadersFrom}
 use Rattle.findings.specs.declared.Tenure.{Tenure}
 
--- the last record of the term before a place, with so many certificates from there on
-unfoldable pub endAt : List ℕ → ℕ → ℕ → ℕ
-endAt s zero next = recordCount s
-endAt s (suc later) next = ballotAt 4 s next .lastIndex
+module _ (s : List ℕ) where
+  -- the last record of the term before a place, with so many certificates from there on
+  unfoldable pub endAt : ℕ → ℕ → ℕ
+  endAt zero next = recordCount s
+  endAt (suc later) next = ballotAt 4 s next .lastIndex
 
--- S is the bytes of a signature
-module _ (S : ℕ) (s : List ℕ) where
-  -- the tenure of the certificate at a place, with so many after it
-  unfoldable pub tenureAt : ℕ → ℕ → Tenure
-  tenureAt later at =
+  -- the tenure of the certificate at a place that ends at another, with so many after it
+  unfoldable pub tenureAt : ℕ → ℕ → ℕ → Tenure
+  tenureAt later at next =
       let b = ballotAt 4 s at in
       record {
         candidate = b .candidate;
@@ -23,13 +22,15 @@ module _ (S : ℕ) (s : List ℕ) where
         «last_term» = b .lastTerm;
         «last_index» = b .lastIndex;
         signers = signersAt s (at + ballotSize 4);
-        end = endAt s later (certificateEnd 4 S s at);
+        end = endAt later next;
       }
 
+-- S is the bytes of a signature
+module _ (S : ℕ) (s : List ℕ) where
   -- those of so many certificates from a place on
   unfoldable pub tenuresAt : ℕ → ℕ → List Tenure
   tenuresAt zero at = []
-  tenuresAt (suc later) at = tenureAt later at ∷ tenuresAt later (certificateEnd 4 S s at)
+  tenuresAt (suc later) at = let next = certificateEnd 4 S s at in tenureAt s later at next ∷ tenuresAt later next
 
   -- all of them
   unfoldable pub tenuresOf : List Tenure

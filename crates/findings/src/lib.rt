@@ -1,6 +1,8 @@
 // The fork index and the rows of two accepted submissions (document 01, "The report").
 pub mod charges;
 pub mod logs;
+pub mod rows;
+pub mod tenures;
 
 // A term of a submission as its rules compare it: the numbers of its leader certificate, and the index of its last record in this log, where the
 // stamp is.

@@ -89,7 +89,7 @@ pub fn read(s: &[u8], at: usize, end: usize, size: usize) -> Reading
 }
 
 // The numbers of the leader certificate at a place.
-fn numbers_at(s: &[u8], at: usize) -> Certificate
+pub fn numbers_at(s: &[u8], at: usize) -> Certificate
     requires { ⌜ (at + paper.fieldsSize ≤ length (now s)) × (length (now s) ≤ submissionMost) ⌝ }
     ensures { λ r. ⌜ r ≡ paper.numbersAt (now (s .entry)) at ⌝ }
 {

@@ -81,7 +81,7 @@ module _ (roster s : List ℕ) (S : ℕ) where
   unfoldable pub leadsFrom : ℕ → ℕ → ℕ → List Run → List Lead
   leadsFrom left at stamp rs = leadsOf (certificates 4 S s left at) rs (stampsAt S s left stamp)
 
-  leads-first : (left at stamp : ℕ) (r : Run) (rs : List Run) → 0 < left
+  pub leads-first : (left at stamp : ℕ) (r : Run) (rs : List Run) → 0 < left
       → leadsFrom left at stamp (r ∷ rs) ≡ leadAt at stamp r ∷ leadsFrom (left - 1) (certificateEnd 4 S s at) (stamp + S) rs
   unfolding leadsFrom leadAt leadsOf certificates stampsAt
   leads-first left at stamp r rs more =
@@ -103,7 +103,7 @@ module _ (roster s : List ℕ) (S : ℕ) where
       pub facts : Leads at of
       pub rest : TermsLeft (left - 1) (certificateEnd 4 S s at) (stamp + S) (of .upto) later
 
-    turn : (left at stamp : ℕ) (before : List Record) (rs : List Run) → 0 < left → TermsLeft left at stamp before rs → Turn left at stamp before rs
+    pub turn : (left at stamp : ℕ) (before : List Record) (rs : List Run) → 0 < left → TermsLeft left at stamp before rs → Turn left at stamp before rs
     unfolding Linked every
     turn left at stamp before [] more x = absurd (omega (arith, x .count))
     turn left at stamp before (r ∷ rs) more x =

@@ -88,7 +88,7 @@ module _ (roster : List ℕ) (log : List Record) (term index : ℕ) (p : List �
   receipt-said = rw (append-assoc, append-assoc) (ap (λ (l : List ℕ). 2 ∷ cluster roster ++ l) place-said)
 
 -- the log up to a record
-take-records : (w i count : ℕ) (s : List ℕ) → i ≤ count → take i (recordsOf w count s) ≡ recordsOf w i s
+pub take-records : (w i count : ℕ) (s : List ℕ) → i ≤ count → take i (recordsOf w count s) ≡ recordsOf w i s
 unfolding recordsOf
 take-records w zero count s h = refl
 take-records w (suc i) zero s h = absurd (omega arith)

@@ -1,0 +1,85 @@
+// A board's row: the lowest of what the four rules charge it with, from two submissions (document 01, "The report").
+ghost use mathlib.Core.Path.{_≡_};
+ghost use mathlib.Core.Bool.{true};
+ghost use mathlib.Core.List.{flatMap};
+ghost use Prim.Native.Nat.{_<_};
+ghost use Rattle.submission.specs.Reading.{laidOut};
+ghost use Rattle.forensics.specs.Findings.{lowest};
+ghost use Rattle.layout.specs.Reader.{Bounds};
+ghost use Rattle.findings.specs.Rules as paper;
+ghost use Rattle.findings.specs.Tenures.{tenuresOf};
+ghost use Rattle.findings.specs.declared.Receipts.the-variants.{Given};
+use super::Receipt;
+use super::Receipts;
+use super::Row;
+use super::Tenure;
+use super::charges;
+use super::tenures;
+use layout::parts;
+use layout::reader;
+use layout::trailer;
+
+// The row of board k from a term of the first submission and those of the second: rules 1 and 2.
+fn against(k: usize, difference: usize, x: Tenure, s: &[u8], size: usize) -> Row
+    requires { ⌜ (0 < k) × Bounds size (now s) × (laidOut 4 size (now s) ≡ true) ⌝ }
+    ensures { λ r. ⌜ paper.chargeOf r ≡ lowest (flatMap (paper.between k difference x) (tenuresOf size (now (s .entry)))) ⌝ }
+{
+    let mut best = charges::unnamed();
+    let mut left = trailer::leader_count(s);
+    let mut at = parts::leaders_from(s);
+    while 0 < left {
+        let next = reader::certificate_end(s, at, size);
+        let y = tenures::tenure_at(s, left - 1, at, next);
+        best = charges::lower(best, charges::between(k, difference, x, y));
+        at = next;
+        left -= 1;
+    }
+    best
+}
+
+// The row of board k from the terms of two submissions: rules 1 and 2.
+fn among_terms(k: usize, difference: usize, a: &[u8], b: &[u8], size: usize) -> Row
+    requires { ⌜ (0 < k) × Bounds size (now a) × (laidOut 4 size (now a) ≡ true) × Bounds size (now b) × (laidOut 4 size (now b) ≡ true) ⌝ }
+    ensures { λ r. ⌜ paper.chargeOf r ≡ lowest (paper.amongTerms k difference (tenuresOf size (now (a .entry))) (tenuresOf size (now (b .entry)))) ⌝ }
+{
+    let mut best = charges::unnamed();
+    let mut left = trailer::leader_count(a);
+    let mut at = parts::leaders_from(a);
+    while 0 < left {
+        let next = reader::certificate_end(a, at, size);
+        let x = tenures::tenure_at(a, left - 1, at, next);
+        best = charges::lower(best, against(k, difference, x, b, size));
+        at = next;
+        left -= 1;
+    }
+    best
+}
+
+// The row of board k from a receipt of the one and the terms of the other: rule 3 or 4.
+fn after_given(k: usize, rule: u8, given: Receipt, s: &[u8], size: usize) -> Row
+    requires { ⌜ (0 < k) × (0 < rule) × Bounds size (now s) × (laidOut 4 size (now s) ≡ true) ⌝ }
+    ensures { λ r. ⌜ paper.chargeOf r ≡ lowest (paper.afterReceipts k rule (Given given) (tenuresOf size (now (s .entry)))) ⌝ }
+{
+    let mut best = charges::unnamed();
+    let mut left = trailer::leader_count(s);
+    let mut at = parts::leaders_from(s);
+    while 0 < left {
+        let next = reader::certificate_end(s, at, size);
+        let y = tenures::tenure_at(s, left - 1, at, next);
+        best = charges::lower(best, charges::after_receipt(k, rule, given, y));
+        at = next;
+        left -= 1;
+    }
+    best
+}
+
+// The row of board k from the receipts of the one, where it has any, and the terms of the other.
+fn after_receipts(k: usize, rule: u8, receipts: Receipts, s: &[u8], size: usize) -> Row
+    requires { ⌜ (0 < k) × (0 < rule) × Bounds size (now s) × (laidOut 4 size (now s) ≡ true) ⌝ }
+    ensures { λ r. ⌜ paper.chargeOf r ≡ lowest (paper.afterReceipts k rule receipts (tenuresOf size (now (s .entry)))) ⌝ }
+{
+    match receipts {
+        Receipts::Given(given) => after_given(k, rule, given, s, size),
+        Receipts::Absent => charges::unnamed(),
+    }
+}
