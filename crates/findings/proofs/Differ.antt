@@ -17,9 +17,10 @@ use Rattle.chain.specs.Log.{Record}
 use Rattle.replica.specs.Charges.{agree, sameRecord}
 use Rattle.submission.specs.View.{Commit, View, committedBy, committed}
 use Rattle.forensics.specs.Findings.{differAt, fork}
+use Rattle.findings.specs.declared.Receipt.{Receipt}
 use Rattle.findings.specs.declared.Receipts.{Receipts}
 use Rattle.findings.specs.declared.Receipts.the-variants.{Given, Absent}
-use Rattle.findings.specs.Rules.{receiptsBy, receipts}
+use Rattle.findings.specs.Rules.{receiptsBy, receipts, forkOf}
 
 -- ---- a difference within two lengths
 
@@ -141,12 +142,6 @@ module _ (a b : ℕ) (l m : List Record) where
 
 -- ---- the fork
 
--- from the first difference of the logs and the receipts of both: an index that both have committed
-unfoldable pub forkOf : ℕ → Receipts → Receipts → ℕ
-forkOf d Absent y = 0
-forkOf d (Given x) Absent = 0
-forkOf d (Given x) (Given y) = cond (all (ltb 0 d ∷ leb d (x .index) ∷ leb d (y .index) ∷ [])) d 0
-
 fork-by : (o p : Option Commit) (l m : List Record)
     → differAt 1 (committedBy o l) (committedBy p m) ≡ forkOf (differAt 1 l m) (receiptsBy o l) (receiptsBy p m)
 unfolding committedBy receiptsBy forkOf differAt
@@ -157,3 +152,31 @@ fork-by (some c) (some e) l m = differ-take (c .index) (e .index) l m
 pub fork-ruled : (a b : View) → fork a b ≡ forkOf (differAt 1 (a .log) (b .log)) (receipts a) (receipts b)
 unfolding fork committed receipts
 fork-ruled a b = fork-by (a .commit) (b .commit) (a .log) (b .log)
+
+-- from the receipts, one after the other
+module _ (d : ℕ) (first second : Receipts) where
+  pub none-first : first ≡ Absent → 0 ≡ forkOf d first second
+  unfolding forkOf
+  none-first e = rw e
+
+  module _ {x : Receipt} (one : first ≡ Given x) where
+    pub none-second : second ≡ Absent → 0 ≡ forkOf d first second
+    unfolding forkOf
+    none-second e = rw (one, e)
+
+    module _ {y : Receipt} (two : second ≡ Given y) where
+      pub beyond-first : x .index < d → 0 ≡ forkOf d first second
+      unfolding forkOf inBoth
+      beyond-first h = rw (one, two, above-first d (x .index) (y .index) (λ p. h))
+
+      pub beyond-second : y .index < d → 0 ≡ forkOf d first second
+      unfolding forkOf inBoth
+      beyond-second h = rw (one, two, above-second d (x .index) (y .index) (λ p. h))
+
+      pub within-both : d ≤ x .index → d ≤ y .index → d ≡ forkOf d first second
+      unfolding forkOf inBoth
+      within-both p q = rw (one, two) (go d (x .index) (y .index) p q)
+        where
+          go : (d a b : ℕ) → d ≤ a → d ≤ b → d ≡ cond (inBoth d a b) d 0
+          go zero a b p q = rw (none-in a b)
+          go (suc d) a b p q = rw (in-both (suc d) a b (omega arith) p q)

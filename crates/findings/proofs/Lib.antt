@@ -9,3 +9,4 @@ pub mod Charged
 pub mod Ended
 pub mod Left
 pub mod Committed
+pub mod Boards

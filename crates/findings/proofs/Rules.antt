@@ -25,7 +25,7 @@ use Rattle.submission.proofs.Accepted.{Sound}
 use Rattle.submission.proofs.Runs.{run-begins}
 use Rattle.forensics.specs.Findings.{says, charges, lowest, differAt}
 use Rattle.findings.specs.declared.Receipt.{Receipt}
-use Rattle.findings.specs.Rules.{tenure, tenures, receiptsBy, receipts, twoCandidates, twoLogs, forgotten, between, amongTerms, afterReceipts, ruled, least}
+use Rattle.findings.specs.Rules.{tenure, tenures, receiptsBy, receipts, twoCandidates, twoLogs, forgotten, between, amongTerms, afterReceipts, ruled, least, ruledBy}
 use Rattle.findings.proofs.Lowest.{lowest-append, lowest-split, lowest-both}
 use Rattle.findings.proofs.Differ.{agree-take}
 use Rattle.findings.proofs.Says.{saidIf, vote, stamp, receipt, voter, stamper, voteBy, stampBy, receiptBy, says-slots}
@@ -231,7 +231,7 @@ module _ (form : Form) (n S k : ℕ) (some-board : 0 < k) (few : k ≤ 16) (a b 
       )
 
   from-numbers : lowest (ruled k (differAt 1 (a .log) (b .log)) a b) ≡ answer
-  unfolding ruled tenures receipts answer
+  unfolding ruled ruledBy tenures receipts answer
   from-numbers =
       let d = differAt 1 (a .log) (b .log) in
       let one = amongTerms k d (map tenure (leads a)) (map tenure (leads b)) in

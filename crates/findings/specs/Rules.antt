@@ -2,7 +2,7 @@
 use mathlib.Core.Bool.{Bool, not, cond}
 use mathlib.Core.List.{List, [], _∷_, _++_, map, flatMap}
 use mathlib.Core.Option.{Option, some, none}
-use Prim.Native.Nat.{ℕ}
+use Prim.Native.Nat.{ℕ, zero, suc}
 use lib.Dec.{eqb, leb, ltb}
 use lib.ListN.{length, take}
 use Rattle.refusal.specs.Checks.{all}
@@ -84,10 +84,28 @@ module _ (k : ℕ) where
   afterReceipts rule (Given r) ys = flatMap (λ y. charge (forgotten r y) rule (y .term)) ys
 
 -- all of them, from two submissions whose logs differ first at an index
+unfoldable pub ruledBy : ℕ → ℕ → List Tenure → List Tenure → Receipts → Receipts → List Charge
+ruledBy k difference xs ys first second =
+    amongTerms k difference xs ys ++ afterReceipts k 3 first ys ++ afterReceipts k 4 second xs
+
 unfoldable pub ruled : ℕ → ℕ → View → View → List Charge
-ruled k difference a b =
-    amongTerms k difference (tenures a) (tenures b) ++ afterReceipts k 3 (receipts a) (tenures b)
-    ++ afterReceipts k 4 (receipts b) (tenures a)
+ruled k difference a b = ruledBy k difference (tenures a) (tenures b) (receipts a) (receipts b)
+
+-- the rows of so many boards from board k on
+unfoldable pub rowsBy : (ℕ → Option Charge) → ℕ → ℕ → List (Option Charge)
+rowsBy row zero k = []
+rowsBy row (suc count) k = row k ∷ rowsBy row count (suc k)
+
+-- ---- the fork
+
+-- from the first difference of the logs and the receipts of both: an index that both have committed
+unfoldable pub forkOf : ℕ → Receipts → Receipts → ℕ
+forkOf difference Absent second = 0
+forkOf difference (Given x) Absent = 0
+forkOf difference (Given x) (Given y) =
+    cond (all (ltb 0 difference ∷ leb difference (x .index) ∷ leb difference (y .index) ∷ [])) difference 0
+
+-- ---- the lowest charge
 
 -- the lower of the lowest charges of two lists, where there are any
 unfoldable pub least : Option Charge → Option Charge → Option Charge

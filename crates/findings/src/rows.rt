@@ -1,7 +1,7 @@
 // A board's row: the lowest of what the four rules charge it with, from two submissions (document 01, "The report").
 ghost use mathlib.Core.Path.{_≡_};
 ghost use mathlib.Core.Bool.{true};
-ghost use mathlib.Core.List.{flatMap};
+ghost use mathlib.Core.List.{map, flatMap};
 ghost use Prim.Native.Nat.{_<_};
 ghost use Rattle.submission.specs.Reading.{laidOut};
 ghost use Rattle.forensics.specs.Findings.{lowest};
@@ -18,6 +18,9 @@ use super::tenures;
 use layout::parts;
 use layout::reader;
 use layout::trailer;
+
+// The boards that have a row.
+const ROWS: usize = 9;
 
 // The row of board k from a term of the first submission and those of the second: rules 1 and 2.
 fn against(k: usize, difference: usize, x: Tenure, s: &[u8], size: usize) -> Row
@@ -82,4 +85,44 @@ fn after_receipts(k: usize, rule: u8, receipts: Receipts, s: &[u8], size: usize)
         Receipts::Given(given) => after_given(k, rule, given, s, size),
         Receipts::Absent => charges::unnamed(),
     }
+}
+
+// The row of board k, from two submissions whose logs differ first at an index, and their receipts.
+fn row(
+    k: usize,
+    difference: usize,
+    a: &[u8],
+    b: &[u8],
+    first: Receipts,
+    second: Receipts,
+    size: usize,
+) -> Row
+    requires { ⌜ (0 < k) × Bounds size (now a) × (laidOut 4 size (now a) ≡ true) × Bounds size (now b) × (laidOut 4 size (now b) ≡ true) ⌝ }
+    ensures { λ r. ⌜ paper.chargeOf r ≡ lowest (paper.ruledBy k difference (tenuresOf size (now (a .entry))) (tenuresOf size (now (b .entry))) first second) ⌝ }
+{
+    let terms = among_terms(k, difference, a, b, size);
+    let third = after_receipts(k, 3, first, b, size);
+    let fourth = after_receipts(k, 4, second, a, size);
+    charges::lower(charges::lower(terms, third), fourth)
+}
+
+// The rows of boards 1 to 9.
+pub fn rows(
+    difference: usize,
+    a: &[u8],
+    b: &[u8],
+    first: Receipts,
+    second: Receipts,
+    size: usize,
+) -> [Row; 9]
+    requires { ⌜ Bounds size (now a) × (laidOut 4 size (now a) ≡ true) × Bounds size (now b) × (laidOut 4 size (now b) ≡ true) ⌝ }
+    ensures { λ r. ⌜ map paper.chargeOf r ≡ paper.rowsBy (λ k. lowest (paper.ruledBy k difference (tenuresOf size (now (a .entry))) (tenuresOf size (now (b .entry))) first second)) 9 1 ⌝ }
+{
+    let mut out = [Row { rule: 0, term: 0 }; 9];
+    let mut i = 0;
+    while i < ROWS {
+        out[i] = row(i + 1, difference, a, b, first, second, size);
+        i += 1;
+    }
+    out
 }
