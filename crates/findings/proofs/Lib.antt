@@ -10,3 +10,4 @@ pub mod Ended
 pub mod Left
 pub mod Committed
 pub mod Boards
+pub mod Shown

@@ -1,10 +1,14 @@
 -- The terms of a submission as they are read, one leader certificate after the other: the last record of a term stands in the next leader
 -- certificate, as the last record before the next term; that of the last term is the log's.
 use mathlib.Core.List.{List, [], _∷_}
+use mathlib.Core.Option.{Option}
 use Prim.Native.Nat.{ℕ, zero, suc, _+_}
+use Rattle.replica.specs.Charges.{Charge}
 use Rattle.submission.specs.Trailer.{recordCount, leaderCount}
-use Rattle.submission.specs.Reading.{ballotSize, ballotAt, signersAt, certificateEnd, leadersFrom}
+use Rattle.submission.specs.Reading.{ballotSize, ballotAt, signersAt, certificateEnd, leadersFrom, view}
+use Rattle.forensics.specs.Findings as forensics
 use Rattle.findings.specs.declared.Tenure.{Tenure}
+use Rattle.findings.specs.Rules.{receipts, ruledBy, rowsBy, forkOf}
 
 module _ (s : List ℕ) where
   -- the last record of the term before a place, with so many certificates from there on
@@ -35,3 +39,14 @@ module _ (S : ℕ) (s : List ℕ) where
   -- all of them
   unfoldable pub tenuresOf : List Tenure
   tenuresOf = tenuresAt (leaderCount s) (leadersFrom 4 S s)
+
+-- ---- both submissions
+
+-- what two submissions show, from the terms that are read
+unfoldable pub read : ℕ → List ℕ → List ℕ → forensics.Findings
+read S a b =
+    let v = view 4 S a in
+    let w = view 4 S b in
+    let difference = forensics.differAt 1 (v .log) (w .log) in
+    let row : ℕ → Option Charge = λ k. forensics.lowest (ruledBy k difference (tenuresOf S a) (tenuresOf S b) (receipts v) (receipts w)) in
+    record { fork = forkOf difference (receipts v) (receipts w); rows = rowsBy row forensics.rowCount 1 }
