@@ -1,0 +1,100 @@
+// The number of the first check that a submission does not meet (document 01, "What stops an audit": the lowest number that applies), each
+// check asked after those before it.
+ghost use mathlib.Core.Path.{_≡_};
+ghost use mathlib.Core.Bool.{cond};
+ghost use lib.Dec.{eqb};
+ghost use Rattle.refusal.specs.Checks.{refusal};
+ghost use Rattle.roster.specs.Roster.{rosterNumber};
+ghost use Rattle.layout.specs.Reader.{Bounds};
+ghost use Rattle.submission.specs.Validate as paper;
+ghost use Rattle.validation.specs.Checked.{Laid, Counted, leaderChecks, logChecks, partChecks};
+use super::signatures;
+use layout::checks;
+use layout::parts;
+use layout::signers;
+use layout::trailer;
+use leadership::leaders;
+use leadership::terms;
+
+// 13 to 15.
+fn leader_number(roster: &[u8], s: &[u8], size: usize) -> u32
+    requires { ⌜ Counted (now roster) size (now s) ⌝ }
+    ensures { λ r. ⌜ r ≡ refusal (leaderChecks (now (roster .entry)) size (now (s .entry))) ⌝ }
+{
+    let n = roster::boards(roster);
+    let records = trailer::record_count(s);
+    let count = trailer::leader_count(s);
+    let from = parts::leaders_from(s);
+    if !leaders::all_leading(s, n, size, records, count, from) {
+        return 13;
+    }
+    if !checks::within(s, size) {
+        return 14;
+    }
+    if !signatures::all_good(roster, s, size) {
+        return 15;
+    }
+    0
+}
+
+// 11 to 15.
+fn log_number(roster: &[u8], s: &[u8], size: usize) -> u32
+    requires { ⌜ Laid (now roster) size (now s) ⌝ }
+    ensures { λ r. ⌜ r ≡ refusal (logChecks (now (roster .entry)) size (now (s .entry))) ⌝ }
+{
+    let records = trailer::record_count(s);
+    if !terms::ordered(s, records) {
+        return 11;
+    }
+    if trailer::leader_count(s) != terms::run_count(s, records) {
+        return 12;
+    }
+    leader_number(roster, s, size)
+}
+
+// 9 to 15.
+fn part_number(roster: &[u8], s: &[u8], size: usize) -> u32
+    requires { ⌜ (rosterNumber (now roster) ≡ 0) × Bounds size (now s) ⌝ }
+    ensures { λ r. ⌜ r ≡ refusal (partChecks (now (roster .entry)) size (now (s .entry))) ⌝ }
+{
+    if !parts::laid_out(s, size) {
+        return 9;
+    }
+    let n = roster::boards(roster);
+    if !signers::all_quorate(s, n, size) {
+        return 10;
+    }
+    log_number(roster, s, size)
+}
+
+// 5 to 15, against a roster that has no refusal.
+pub fn number(roster: &[u8], s: &[u8]) -> u32
+    requires { ⌜ rosterNumber (now roster) ≡ 0 ⌝ }
+    ensures { λ r. ⌜ r ≡ paper.validate (now (roster .entry)) (now (s .entry)) ⌝ }
+{
+    if !checks::sized(s) {
+        return 5;
+    }
+    if !checks::versioned(s) {
+        return 6;
+    }
+    if !checks::named(roster, s) {
+        return 7;
+    }
+    if !checks::counted(s) {
+        return 8;
+    }
+    let size = roster::signature_size(roster);
+    part_number(roster, s, size)
+}
+
+// The roster's refusal, or that of the submission against it; 0 where both are accepted.
+pub fn validate(roster: &[u8], s: &[u8]) -> u32
+    ensures { λ r. ⌜ r ≡ cond (eqb (rosterNumber (now (roster .entry))) 0) (paper.validate (now (roster .entry)) (now (s .entry))) (rosterNumber (now (roster .entry))) ⌝ }
+{
+    let refused = roster::validate(roster);
+    if refused != 0 {
+        return refused;
+    }
+    number(roster, s)
+}
