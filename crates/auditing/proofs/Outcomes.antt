@@ -4,7 +4,10 @@ use mathlib.Core.Path.{_≡_, refl, sym, ap, _∙_}
 use mathlib.Core.Bool.{Bool, true, false, cond}
 use mathlib.Core.List.{List}
 use Prim.Native.Nat.{ℕ}
-use borrow.Author.Tests.{eq-eqb, ne-eqb}
+use mathlib.Core.Logic.{_⊎_, inl, inr}
+use native.Mathlib.Omega.{arith}
+use borrow.Author.Tests.{eqb-true, eq-eqb, ne-eqb}
+use Rattle.refusal.proofs.Laws.{look}
 use lib.Dec.{eqb}
 use Rattle.roster.specs.Roster.{rosterNumber, signatureSize}
 use Rattle.submission.specs.Validate.{validate, viewOf}
@@ -13,6 +16,9 @@ use Rattle.report.specs.Report.{Answer, refused, answer}
 use Rattle.auditing.specs.declared.Outcome.{Outcome}
 use Rattle.auditing.specs.declared.Outcome.the-variants.{Accepted, Refused}
 use Rattle.auditing.specs.Outcomes.{outcome, answerOf}
+
+refused-not-accepted : {n w : ℕ} → Refused n w ≡ Accepted → ⊥
+refused-not-accepted e = let z : _≡_ {A = ℕ} 0 1 = cc in omega arith
 
 module _ (roster first second : List ℕ) where
   pub roster-refused : {n : ℕ} → n ≡ rosterNumber roster → (n ≡ 0 → ⊥) → Refused n 0 ≡ outcome roster first second
@@ -33,6 +39,19 @@ module _ (roster first second : List ℕ) where
       unfolding outcome
       both-accepted two = rw (eq-eqb _ 0 fine, eq-eqb _ 0 one, eq-eqb _ 0 two)
 
+  -- what an accepted outcome says
+  pub accepted-says : outcome roster first second ≡ Accepted → (rosterNumber roster ≡ 0) × (validate roster first ≡ 0) × (validate roster second ≡ 0)
+  unfolding outcome
+  accepted-says e = go (look (eqb (rosterNumber roster) 0)) (look (eqb (validate roster first) 0)) (look (eqb (validate roster second) 0)) e
+    where
+      go : (eqb (rosterNumber roster) 0 ≡ true) ⊎ (eqb (rosterNumber roster) 0 ≡ false) → (eqb (validate roster first) 0 ≡ true) ⊎ (eqb (validate roster first) 0 ≡ false)
+          → (eqb (validate roster second) 0 ≡ true) ⊎ (eqb (validate roster second) 0 ≡ false) → outcome roster first second ≡ Accepted
+          → (rosterNumber roster ≡ 0) × (validate roster first ≡ 0) × (validate roster second ≡ 0)
+      go (inl x) (inl y) (inl z) h = (eqb-true _ _ x, eqb-true _ _ y, eqb-true _ _ z)
+      go (inl x) (inl y) (inr z) h = absurd (refused-not-accepted (rw (x, y, z) at h))
+      go (inl x) (inr y) z h = absurd (refused-not-accepted (rw (x, y) at h))
+      go (inr x) y z h = absurd (refused-not-accepted (rw x at h))
+
   -- the answer, case by case
   pub answer-of : answer roster first second ≡ answerOf (outcome roster first second) (findings (signatureSize roster) (viewOf roster first) (viewOf roster second))
   unfolding answer outcome answerOf
@@ -46,3 +65,12 @@ module _ (roster first second : List ℕ) where
       go true true false = refl
       go true false z = refl
       go false y z = refl
+
+  pub accepted-answer : outcome roster first second ≡ Accepted
+      → answer roster first second ≡ record { number = 0; side = 0; findings = findings (signatureSize roster) (viewOf roster first) (viewOf roster second) }
+  unfolding answerOf
+  accepted-answer e = rw e at answer-of
+
+  pub refused-answer : {number side : ℕ} → outcome roster first second ≡ Refused number side → answer roster first second ≡ refused number side
+  unfolding answerOf
+  refused-answer e = rw e at answer-of

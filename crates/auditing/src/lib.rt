@@ -1,7 +1,14 @@
 // The audit (document 01, "What stops an audit" and "The report"): the refusal that comes first, or what two accepted submissions show.
 ghost use mathlib.Core.Path.{_≡_};
+ghost use mathlib.Core.List.{_++_};
+ghost use Prim.Native.Nat.{_≤_};
+ghost use lib.ListN.{length, drop};
+ghost use Rattle.report.specs.Report.{answer, reportSize, reportBytes, auditNumber, reportAfter};
 ghost use Rattle.auditing.specs.Outcomes as paper;
 use validation::checks;
+
+// The bytes of a report.
+const REPORT_SIZE: usize = 53;
 
 // Whether roster and submissions are accepted; if not, the number and where: 0 for the roster, 1 or 2 for the submission.
 pub enum Outcome {
@@ -26,4 +33,28 @@ pub fn validate(roster: &[u8], first: &[u8], second: &[u8]) -> Outcome
         return Outcome::Refused(number_2, 2);
     }
     Outcome::Accepted
+}
+
+// Writes the report to a buffer that is long enough, and gives the number.
+fn write(roster: &[u8], first: &[u8], second: &[u8], report: &mut [u8]) -> u32
+    requires { ⌜ reportSize ≤ length (now report) ⌝ }
+    ensures number { λ r. ⌜ r ≡ answer (now (roster .entry)) (now (first .entry)) (now (second .entry)) .number ⌝ }
+    ensures bytes { λ _. ⌜ now (report .exit) ≡ reportBytes (answer (now (roster .entry)) (now (first .entry)) (now (second .entry))) ++ drop reportSize (now (report .entry)) ⌝ }
+{
+    let Outcome::Refused(number, side) = validate(roster, first, second) else {
+        let found = findings::find(roster, first, second);
+        return writing::write_accepted(report, found);
+    };
+    writing::write_refused(report, number, side)
+}
+
+// The audit: 1 and nothing written where the report buffer is below 53 bytes, otherwise the number, with the report in the first 53 bytes.
+pub fn audit(roster: &[u8], first: &[u8], second: &[u8], report: &mut [u8]) -> u32
+    ensures number { λ r. ⌜ r ≡ auditNumber (now (roster .entry)) (now (first .entry)) (now (second .entry)) (now (report .entry)) ⌝ }
+    ensures bytes { λ _. ⌜ now (report .exit) ≡ reportAfter (now (roster .entry)) (now (first .entry)) (now (second .entry)) (now (report .entry)) ⌝ }
+{
+    if report.len() < REPORT_SIZE {
+        return 1;
+    }
+    write(roster, first, second, report)
 }

@@ -2,6 +2,8 @@
 ghost use mathlib.Core.Path.{_≡_};
 ghost use Rattle.sha256.specs.Service.{digestNumber, digestAfter};
 ghost use Rattle.lms.specs.Check.{answer, answerNumber};
+ghost use Rattle.report.specs.Report.{auditNumber, reportAfter};
+ghost use Rattle.report.specs.Claims.{Naming, Fairness};
 
 // SHA-256 (document 01, "Digest and signature"; FIPS 180-4): 0 and the digest of the message, or 16 for a
 // message of more than 16,777,216 bytes, with the digest as it was.
@@ -20,4 +22,21 @@ pub extern "C" fn hirelog_lms_check(key: &[u8], message: &[u8], signature: &[u8]
     ensures { λ r. ⌜ r ≡ answerNumber (answer (now (key .entry)) (now (message .entry)) (now (signature .entry))) ⌝ }
 {
     lms::number_of(lms::check(key, message, signature))
+}
+
+// The audit (document 01): the number, and the report in the buffer's first 53 bytes; with number 1, for a buffer below 53 bytes, nothing
+// is written. Demand 3 stands on the number and on the report's own bytes.
+#[no_mangle]
+pub extern "C" fn hirelog_audit(
+    roster: &[u8],
+    first: &[u8],
+    second: &[u8],
+    report: &mut [u8],
+) -> u32
+    ensures number { λ r. ⌜ r ≡ auditNumber (now (roster .entry)) (now (first .entry)) (now (second .entry)) (now (report .entry)) ⌝ }
+    ensures bytes { λ _. ⌜ now (report .exit) ≡ reportAfter (now (roster .entry)) (now (first .entry)) (now (second .entry)) (now (report .entry)) ⌝ }
+    ensures naming { λ r. ⌜ Naming (now (roster .entry)) (now (first .entry)) (now (second .entry)) r (now (report .exit)) ⌝ }
+    ensures fairness { λ r. ⌜ Fairness (now (roster .entry)) (now (first .entry)) (now (second .entry)) r (now (report .exit)) ⌝ }
+{
+    auditing::audit(roster, first, second, report)
 }

@@ -1,0 +1,45 @@
+-- The report is that of the outcome.
+-- Assumes nothing.
+use mathlib.Core.Path.{sym, ap, _∙_}
+use mathlib.Core.List.{_++_}
+use borrow.Author.Needs.{needs}
+use lib.ListN.{drop}
+use Rattle.report.specs.Report.{Answer, refused, reportSize, reportBytes}
+use Rattle.writing.specs.Answers.{accepted}
+use Rattle.auditing.specs.Outcomes.{answerOf}
+use Rattle.auditing.proofs.Outcomes.{accepted-says, accepted-answer, refused-answer}
+use Rattle.auditing.proofs.write.Statement.{statement}
+use Rattle.auditing.proofs.write.Tie as tie
+
+find-requires : tie.Need-find-requires
+find-requires c κs =
+    let a = c .before .before .before .before .before .before .before .args in
+    accepted-says (a .roster .now) (a .first .now) (a .second .now) (sym (c .before .before .validate .ensures) ∙ c .enum-told .given .1)
+
+returns : tie.Need-returns
+unfolding accepted
+returns c =
+    let a = c .before .before .before .before .before .before .before .before .before .before .before .before .args in
+    let e = accepted-answer (a .roster .now) (a .first .now) (a .second .now) (sym (c .before .before .before .before .before .before .before .validate .ensures) ∙ c .before .before .before .before .before .enum-told .given .1) in
+    rw (e, ← c .before .before .before .before .find .ensures) (c .before .before .write-accepted .ensures .0, c .before .before .write-accepted .ensures .1)
+
+returns-2 : tie.Need-returns-2
+returns-2 c =
+    let a = c .before .before .before .before .before .before .before .before .before .before .before .before .args in
+    let e = refused-answer (a .roster .now) (a .first .now) (a .second .now) (sym (c .before .before .before .before .before .before .before .validate .ensures) ∙ c .before .before .before .before .before .number .given .1) in
+    rw e (c .before .before .write-refused .ensures .0, c .before .before .write-refused .ensures .1)
+
+pub write-spec : {M : Type 1} → statement M
+write-spec =
+    tie.close
+    (tie.spec
+    (λ c κs. search needs)
+    (λ c. search needs)
+    (λ c. search needs)
+    find-requires
+    (λ c κs. search needs)
+    (λ c. search needs)
+    returns
+    (λ c κs. search needs)
+    (λ c. search needs)
+    returns-2)
