@@ -5,9 +5,10 @@
 //! audit_compare replay FOLDER  one case, from the files that a difference leaves behind
 //!
 //! A case that differs is written to a folder, as `roster`, `first`, `second` and `report_length`,
-//! beside `expected` and `given`, the report's buffers of both: to FAILED if it is set, otherwise
-//! to audit_compare.failed in the current folder. With TRACE set, each case is named and written
-//! there before it runs, so that one in which the library crashes is found.
+//! beside `report` and `given`, the expected and the given buffer: to FAILED if it is set,
+//! otherwise to audit_compare.failed in the current folder. bench/audit_tool.c runs it from there
+//! as well. With TRACE set, each case is named and written there before it runs, so that one in
+//! which the library crashes is found.
 
 mod library;
 mod replay;
@@ -160,7 +161,9 @@ impl Comparison {
         }
         let folder = env::var("FAILED").unwrap_or_else(|_| "audit_compare.failed".into());
         match replay::write(&folder, case, expected, given) {
-            Ok(()) => println!("audit_compare replay {folder} runs this case again"),
+            Ok(()) => println!(
+                "audit_compare replay {folder} runs this case again; so does audit_tool {folder}"
+            ),
             Err(error) => stop(&format!("{folder}: {error}; set FAILED to another folder")),
         }
     }
