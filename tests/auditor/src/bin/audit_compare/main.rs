@@ -123,22 +123,25 @@ impl Comparison {
             println!("{}, {}", self.set, case.name);
             self.write(case, &expected, None);
         }
-        let empty = [case.roster, case.first, case.second].iter().any(|part| part.is_empty());
-        for null in [false, true] {
-            if null && !empty && case.report != 0 {
-                break;
-            }
-            let given = library::ask(null, case);
-            self.calls += 1;
-            if given != expected {
-                let null = if null { ", no bytes given as NULL" } else { "" };
-                let Answer { number, .. } = given;
-                let why = format!("library {number}, expected {}{null}", expected.number);
-                self.differs(case, &why, &expected, Some(&given));
-            }
+        self.hold(case, "", &expected, library::ask(case));
+        let parts = [case.roster, case.first, case.second];
+        if parts.iter().any(|part| part.is_empty()) || case.report == 0 {
+            self.hold(case, ", no bytes given as NULL", &expected, library::ask_null(case));
+        }
+        if found.is_some_and(|found| library::findings(&expected.buffer) != found) {
+            self.differs(case, "the wrapper reads the report wrongly", &expected, None);
         }
         self.cases += 1;
         self.counts[expected.number as usize] += 1;
+    }
+
+    /// Stops if the library's answer is not the expected one.
+    fn hold(&mut self, case: &Case, how: &str, expected: &Answer, given: Answer) {
+        self.calls += 1;
+        if given != *expected {
+            let why = format!("library {}, expected {}{how}", given.number, expected.number);
+            self.differs(case, &why, expected, Some(&given));
+        }
     }
 
     /// Says so, writes the case out and stops.
