@@ -1,16 +1,20 @@
 /*
- * Measures hirelog_lms_check beside portable C:  lms_bench ROUNDS VECTORS...
+ * Measures hirelog_lms_check beside portable C and OpenSSL:  lms_bench ROUNDS VECTORS...
  *
- * lms_vectors.h has the form of a vector file. First both implementations check every signature of
- * the files; an answer other than the file's is an error, and nothing is measured.
+ * lms_vectors.h has the form of a vector file. First all implementations check every signature of
+ * the files; an answer other than the file's is an error, and nothing is measured. OpenSSL has no
+ * LMS: its rows are portable C's check over OpenSSL's SHA-256, without SHA instructions in a child
+ * (child.h).
  *
  * Measured is the check of the files' first good signature of height 5 and digit width 8. In each
  * round every implementation checks it once, one after the other, on one processor; the least time
  * over all rounds counts. The portable one counts the blocks of SHA-256 that the check takes.
  */
 #define _GNU_SOURCE
+#include "child.h"
 #include "hirelog.h"
 #include "lms_vectors.h"
+#include "openssl_lms.h"
 #include "portable_lms.h"
 #include "timing.h"
 
@@ -42,9 +46,14 @@ static int portable(const struct lms_vector *v)
                              v->signature_len, &blocks);
 }
 
-enum { OURS, PORTABLE, ALL };
-static const char *const names[ALL] = {"ours (hirelog_lms_check)", "portable C"};
-static check_function *const checks[ALL] = {ours, portable};
+static int openssl(const struct lms_vector *v)
+{
+    return openssl_lms_good(v->key, v->key_len, v->message, v->message_len, v->signature,
+                            v->signature_len, &blocks);
+}
+
+enum { OURS, PORTABLE, OPENSSL, WITHOUT, ALL };
+static check_function *const checks[WITHOUT] = {ours, portable, openssl};
 
 /* ---- the signatures */
 
@@ -56,16 +65,31 @@ static void try_vector(const struct lms_vector *vector)
         stop("a wrong answer of hirelog_lms_check to ", vector->name);
     if (portable(vector) != vector->good)
         stop("a wrong answer of portable C to ", vector->name);
+    if (openssl(vector) != vector->good)
+        stop("a wrong answer over OpenSSL to ", vector->name);
     if (vector->good && measured.name[0] == '\0' && memcmp(vector->key, types, 8) == 0)
         measured = *vector;
+}
+
+/* ---- rounds */
+
+static double measure(check_function *check)
+{
+    double start = now_ns();
+    int good = check(&measured);
+    double ns = now_ns() - start;
+    if (!good)
+        stop("another answer than before to ", measured.name);
+    return ns;
 }
 
 /* ---- the table */
 
 int main(int argc, char **argv)
 {
-    int rounds = argc > 2 ? atoi(argv[1]) : 0;
-    if (rounds < 1) {
+    int serves = argc > 2 && strcmp(argv[1], "--serve") == 0;
+    int rounds = argc > 2 && !serves ? atoi(argv[1]) : 0;
+    if (!serves && rounds < 1) {
         fprintf(stderr, "usage: lms_bench ROUNDS VECTORS...\n");
         return 1;
     }
@@ -77,20 +101,36 @@ int main(int argc, char **argv)
     if (measured.name[0] == '\0')
         stop("no good signature of height 5 and digit width 8", "");
 
+    if (serves) {
+        for (uint8_t kind; next_round(&kind);) {
+            double ns = measure(openssl);
+            send_result(&ns, sizeof ns);
+        }
+        return 0;
+    }
+
+    struct child child;
     double best[ALL]; /* nanoseconds */
     stay();
+    argv[1] = "--serve"; /* the child has the same files */
+    if (!start_child(&child, argv))
+        stop("no child", "");
     for (int round = 0; round < rounds; round++) {
         for (int i = 0; i < ALL; i++) {
-            double start = now_ns();
-            int good = checks[i](&measured);
-            double ns = now_ns() - start;
-            if (!good)
-                stop("another answer than before to ", measured.name);
+            double ns;
+            if (i != WITHOUT)
+                ns = measure(checks[i]);
+            else if (!ask_child(&child, 0, &ns, sizeof ns))
+                stop("the child gave no answer", "");
             if (round == 0 || ns < best[i])
                 best[i] = ns;
         }
     }
+    end_child(&child);
 
+    const char *const names[ALL] = {"ours (hirelog_lms_check)", "portable C",
+                                    cpu_has_sha() ? "OpenSSL, SHA instructions" : "OpenSSL",
+                                    "OpenSSL without them"};
     uint64_t count = blocks.message + blocks.chains + blocks.public_key + blocks.tree;
     printf("Check of %s: height 5, digit width 8. Best of %d rounds.\n", measured.name, rounds);
     printf("Blocks of SHA-256: %" PRIu64 " (message %" PRIu64 ", chains %" PRIu64

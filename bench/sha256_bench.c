@@ -4,30 +4,16 @@
  * In each round every implementation hashes the same messages once, one implementation after the
  * other, on one processor; the least time over all rounds counts. The digests must agree.
  *
- * OpenSSL reads OPENSSL_ia32cap when it is loaded, so OpenSSL without SHA instructions runs in a
- * child: this program again, with that variable set. The child measures one round for each byte
- * that it is sent and waits meanwhile, so its rounds take their turn among the others.
+ * OpenSSL without SHA instructions runs in a child (child.h).
  */
 #define _GNU_SOURCE
 #define OPENSSL_SUPPRESS_DEPRECATED /* SHA256_Init and so on: no search for an algorithm per call */
+#include "child.h"
 #include "hirelog.h"
 #include "portable_sha256.h"
 #include "timing.h"
 
 #include <openssl/sha.h>
-
-#include <fcntl.h>
-#include <stdio.h>
-#include <stdlib.h>
-#include <string.h>
-#include <sys/wait.h>
-#include <unistd.h>
-
-/*
- * The second part of OPENSSL_ia32cap, after the colon, is CPUID leaf 7: EBX in its low 32 bits.
- * Bit 29 of EBX says that there are SHA instructions; ~ clears the bits that follow.
- */
-#define WITHOUT_SHA ":~0x20000000"
 
 typedef void hash_function(const uint8_t *message, size_t len, uint8_t digest[32]);
 
@@ -84,72 +70,19 @@ static struct result run_round(hash_function *hash, const struct kind *kind)
     return result;
 }
 
-/* ---- the child */
-
-static int to_child, from_child;
-
-/* Measures a round of OpenSSL for each kind number read, until there are no more. */
-static int serve(void)
-{
-    uint8_t kind;
-    while (read(STDIN_FILENO, &kind, 1) == 1) {
-        struct result result = run_round(openssl, &kinds[kind]);
-        if (write(STDOUT_FILENO, &result, sizeof result) != (ssize_t)sizeof result)
-            return 1;
-    }
-    return 0;
-}
-
-static void start_child(void)
-{
-    int down[2], up[2];
-    if (pipe2(down, O_CLOEXEC) != 0 || pipe2(up, O_CLOEXEC) != 0)
-        stop("no pipe");
-    pid_t child = fork();
-    if (child < 0)
-        stop("no child");
-    if (child == 0) {
-        dup2(down[0], STDIN_FILENO);
-        dup2(up[1], STDOUT_FILENO);
-        setenv("OPENSSL_ia32cap", WITHOUT_SHA, 1);
-        execl("/proc/self/exe", "sha256_bench", "--serve", (char *)NULL);
-        _exit(1);
-    }
-    close(down[0]);
-    close(up[1]);
-    to_child = down[1];
-    from_child = up[0];
-}
-
-static struct result child_round(uint8_t kind)
-{
-    struct result result;
-    if (write(to_child, &kind, 1) != 1 ||
-        read(from_child, &result, sizeof result) != (ssize_t)sizeof result)
-        stop("the child gave no answer");
-    return result;
-}
-
 /* ---- the table */
-
-static int cpu_has_sha(void)
-{
-    static char line[1 << 14];
-    int found = 0;
-    FILE *file = fopen("/proc/cpuinfo", "r");
-    while (file && !found && fgets(line, sizeof line, file))
-        found = strncmp(line, "flags", 5) == 0 && strstr(line, " sha_ni") != NULL;
-    if (file)
-        fclose(file);
-    return found;
-}
 
 int main(int argc, char **argv)
 {
     for (size_t i = 0; i < sizeof bytes; i++)
         bytes[i] = (uint8_t)(i * 167 + (i >> 8) * 13);
-    if (argc == 2 && strcmp(argv[1], "--serve") == 0)
-        return serve();
+    if (argc == 2 && strcmp(argv[1], "--serve") == 0) {
+        for (uint8_t kind; next_round(&kind);) {
+            struct result result = run_round(openssl, &kinds[kind]);
+            send_result(&result, sizeof result);
+        }
+        return 0;
+    }
     int rounds = argc == 2 ? atoi(argv[1]) : 400;
     if (argc > 2 || rounds < 1) {
         fprintf(stderr, "usage: sha256_bench [ROUNDS]\n");
@@ -164,13 +97,20 @@ int main(int argc, char **argv)
     static hash_function *const hashes[WITHOUT] = {ours, portable_sha256, openssl};
     double best[ALL][KINDS]; /* nanoseconds per block */
 
+    char *const served[] = {argv[0], "--serve", NULL};
+    struct child child;
     stay();
-    start_child();
+    if (!start_child(&child, served))
+        stop("no child");
     for (int round = 0; round < rounds; round++) {
         for (uint8_t k = 0; k < KINDS; k++) {
             struct result first = {0};
             for (int i = 0; i < ALL; i++) {
-                struct result r = i == WITHOUT ? child_round(k) : run_round(hashes[i], &kinds[k]);
+                struct result r = {0};
+                if (i != WITHOUT)
+                    r = run_round(hashes[i], &kinds[k]);
+                else if (!ask_child(&child, k, &r, sizeof r))
+                    stop("the child gave no answer");
                 if (i == 0)
                     first = r;
                 if (memcmp(r.digest, first.digest, 32) != 0)
@@ -181,8 +121,7 @@ int main(int argc, char **argv)
             }
         }
     }
-    close(to_child);
-    wait(NULL);
+    end_child(&child);
 
     printf("CPU has SHA instructions: %s. Nanoseconds per block, best of %d rounds.\n\n",
            has_sha ? "yes" : "no, so the two OpenSSL rows run the same code", rounds);

@@ -18,8 +18,25 @@ extern "C" {
 /* The bytes of an LMS public key. */
 #define HIRELOG_LMS_KEY_SIZE 56
 
-/* The numbers that a function returns. */
+/* The bytes of an audit's report. */
+#define HIRELOG_REPORT_SIZE 53
+
+/* The numbers that a function returns. Document 01 has the words: What stops an audit. */
 #define HIRELOG_OK 0
+#define HIRELOG_SHORT_REPORT 1
+#define HIRELOG_ROSTER_SIZE 2
+#define HIRELOG_KEY_TYPE 3
+#define HIRELOG_DUPLICATE_KEY 4
+#define HIRELOG_SIZE 5
+#define HIRELOG_VERSION 6
+#define HIRELOG_CLUSTER 7
+#define HIRELOG_COUNTS 8
+#define HIRELOG_LAYOUT 9
+#define HIRELOG_SIGNERS 10
+#define HIRELOG_TERM_ORDER 11
+#define HIRELOG_TERM_COUNT 12
+#define HIRELOG_LEADER 13
+#define HIRELOG_COMMIT_INDEX 14
 #define HIRELOG_BAD_SIGNATURE 15
 #define HIRELOG_LONG_MESSAGE 16
 
@@ -79,6 +96,40 @@ uint32_t hirelog_sha256(const uint8_t *message, size_t message_len,
  */
 uint32_t hirelog_lms_check(const uint8_t *key, size_t key_len, const uint8_t *message,
                            size_t message_len, const uint8_t *signature, size_t signature_len);
+
+/*
+ * The audit of two submissions against a roster (document 01): which replicas signed statements
+ * that contradict each other, and the first index at which both committed different records.
+ *
+ * Returns the report's number: HIRELOG_OK if both submissions are accepted, else the lowest of 1
+ * to 15 that applies. HIRELOG_SHORT_REPORT comes first, then 2 to 4 for the roster, then 5 to 15
+ * for the first submission, then 5 to 15 for the second. HIRELOG_LONG_MESSAGE is never returned.
+ *
+ * With HIRELOG_SHORT_REPORT (report_len below HIRELOG_REPORT_SIZE) nothing is written. Else the
+ * first 53 bytes at report are written, and the others are left as they were. All numbers in them
+ * are big-endian:
+ *   byte 0        the number;
+ *   byte 1        where: 1 or 2 for a number of that submission, else 0;
+ *   bytes 2 to 5  the fork index, 0 if there is none;
+ *   bytes 6 to 7  the replicas named: bit k - 1, counted from the lowest, is replica k;
+ *   bytes 8 to 52 nine rows of 5 bytes, for replicas 1 to 9: the lowest rule that the replica
+ *                 broke (1 byte) and the lowest term for it (4 bytes), 0 and 0 if it is not named.
+ * After a refusal bytes 2 to 52 are 0.
+ *
+ * The caller sees to it that
+ *   - roster points to roster_len readable bytes, first to first_len, second to second_len, and
+ *     report to report_len writable ones; each of the four may be NULL where its length is 0;
+ *   - the report overlaps none of the other three, which may overlap each other;
+ *   - no other thread writes any of the four, or reads the report, during the call.
+ * No pointer has to be aligned.
+ *
+ * The roster and the submissions are never changed, no byte outside the four is read, and no byte
+ * but the report's first 53 is written. No state is kept from one call to the next, so several
+ * threads may call this at the same time, each with a report of its own.
+ */
+uint32_t hirelog_audit(const uint8_t *roster, size_t roster_len, const uint8_t *first,
+                       size_t first_len, const uint8_t *second, size_t second_len,
+                       uint8_t *report, size_t report_len);
 
 #ifdef __cplusplus
 }

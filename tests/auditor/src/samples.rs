@@ -2,9 +2,11 @@
 //! prints for them. All of them follow from fixed labels, so they are always the same.
 
 use crate::build::{log, Cluster, Draft};
-use crate::cases::accepted::large;
+use crate::cases::accepted::{large, largest};
 use crate::cases::figures::{one_leader, stale_leader};
 use crate::cases::{empty, small, whole};
+use crate::roster::mask_of;
+use crate::sha256::sha256;
 use crate::statement::Record;
 use crate::submission::CommitCertificate;
 
@@ -76,23 +78,52 @@ fn set_commit(cluster: &Cluster, draft: &mut Draft, index: u32, signers: u16) {
     draft.lay_out();
 }
 
-/// Document 01's worked pairs, and a large one.
-pub fn pairs(cluster: &Cluster) -> Vec<Pair> {
-    let pair = |folder, cluster: &Cluster, (first, second): (Draft, Draft)| Pair {
-        folder,
-        roster: cluster.roster(),
-        first: first.bytes(),
-        second: second.bytes(),
-    };
-    let (first, second) = stale_leader(cluster);
+fn pair(folder: &'static str, cluster: &Cluster, (first, second): (Draft, Draft)) -> Pair {
+    Pair { folder, roster: cluster.roster(), first: first.bytes(), second: second.bytes() }
+}
+
+/// What stands in the folder samples: document 01's worked pairs, and one that all but fills the
+/// buffers of the program.
+pub fn samples(cluster: &Cluster) -> Vec<Pair> {
     let nine = Cluster::new("large sample", 9, 5);
     vec![
         pair("empty", cluster, (empty(cluster), empty(cluster))),
         pair("one_leader", cluster, one_leader(cluster)),
-        pair("stale_leader", cluster, (first.clone(), second.clone())),
-        pair("stale_leader_exchanged", cluster, (second, first)),
-        pair("large", &nine, large(&nine)),
+        pair("stale_leader", cluster, stale_leader(cluster)),
+        pair("large", &nine, filling(&nine)),
     ]
+}
+
+/// More pairs, that are tested and measured: one with its submissions exchanged, and two too large
+/// for the program.
+pub fn more_pairs(cluster: &Cluster) -> Vec<Pair> {
+    let (first, second) = stale_leader(cluster);
+    let nine = Cluster::new("large sample", 9, 5);
+    let tall = Cluster::new("largest sample", 9, 9);
+    vec![
+        pair("stale_leader_exchanged", cluster, (second, first)),
+        pair("most_terms", &nine, large(&nine)),
+        pair("largest", &tall, (largest(&tall), empty(&tall))),
+    ]
+}
+
+/// n = 9, two terms, 182 records. The logs part at index 60: board 1 stamps both in term 4, and
+/// boards 5 to 7 give receipts in term 5 and then elect, in term 7, a leader without those records.
+fn filling(cluster: &Cluster) -> (Draft, Draft) {
+    let made = |last_term, parted: &[u8]| -> Vec<Record> {
+        let record = |i: u8| Record {
+            term: if i <= 100 { 4 } else { last_term },
+            payload: sha256(&[&[i], if i < 60 { &[] } else { parted }]),
+        };
+        (1..=182).map(record).collect()
+    };
+    let signers = |first: u16| mask_of(&(first..first + 5).collect::<Vec<_>>());
+    let first = [(1, signers(1)), (2, signers(2))];
+    let first = cluster.submission(&made(5, b"a"), &first, Some((182, signers(3))));
+    let others = mask_of(&[1, 6, 7, 8, 9]);
+    let second = [(1, others), (9, signers(5))];
+    let second = cluster.submission(&made(7, b"b"), &second, Some((182, others)));
+    (first, second)
 }
 
 #[cfg(test)]
@@ -118,7 +149,7 @@ mod tests {
         }
     }
 
-    /// The lines that document 01 gives; the large pair does not fit the program's buffers.
+    /// The lines that document 01 gives, and those of the other pairs.
     #[test]
     fn worked_lines() {
         let mut verdicts = Verdicts::default();
@@ -126,10 +157,14 @@ mod tests {
             "refusal 0 in 0\nfork 0\n",
             "refusal 0 in 0\nfork 1\nboard 1 rule 2 term 1\n",
             "refusal 0 in 0\nfork 1\nboard 2 rule 3 term 2\n",
+            "refusal 0 in 0\nfork 60\nboard 1 rule 2 term 4\nboard 5 rule 3 term 7\n\
+                board 6 rule 3 term 7\nboard 7 rule 3 term 7\n",
             "refusal 0 in 0\nfork 1\nboard 2 rule 4 term 2\n",
             "refusal 5 in 1\nfork 0\n",
+            "refusal 5 in 1\nfork 0\n",
         ];
-        let pairs = pairs(&cluster());
+        let mut pairs = samples(&cluster());
+        pairs.extend(more_pairs(&cluster()));
         assert_eq!(pairs.len(), expected.len());
         for (pair, expected) in pairs.iter().zip(expected) {
             let Pair { roster, first, second, .. } = pair;

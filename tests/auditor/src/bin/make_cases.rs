@@ -4,13 +4,14 @@
 //! each number; `whole`, an accepted one with every part; and `expected`, a line of name and
 //! number for each.
 //!
-//! FOLDER/NAME, for each worked pair of document 01 and a large one: `roster`, `first`, `second`,
-//! `expected` (the lines that the program `audit` prints) and `report` (the 53 bytes that the
-//! library's audit writes). They differ where a file is larger than the program's buffer.
+//! FOLDER/samples/NAME, for each pair of the repository's folder samples, and FOLDER/pairs/NAME,
+//! for more: `roster`, `first`, `second`, `expected` (the lines that the program `audit` prints)
+//! and `report` (the 53 bytes that the library's audit writes). They differ where a file is larger
+//! than the program's buffer.
 
 use auditor::audit::findings;
 use auditor::program;
-use auditor::samples::{cluster, pairs, submissions, Pair};
+use auditor::samples::{cluster, more_pairs, samples, submissions, Pair};
 use auditor::verdicts::Verdicts;
 use std::path::{Path, PathBuf};
 use std::{env, fs, process::exit};
@@ -41,18 +42,23 @@ fn main() {
     }
     write(&numbers, "expected", expected.as_bytes());
 
-    for pair in pairs(&cluster) {
-        let Pair { folder: name, roster, first, second } = pair;
-        let folder = made(folder.join(name));
-        let lines = program::lines(Some(&roster), Some(&first), Some(&second), &mut verdicts);
-        let report = findings(&roster, &first, &second, &mut verdicts).bytes();
-        write(&folder, "roster", &roster);
-        write(&folder, "first", &first);
-        write(&folder, "second", &second);
-        write(&folder, "expected", lines.as_bytes());
-        write(&folder, "report", &report);
+    for (part, pairs) in [("samples", samples(&cluster)), ("pairs", more_pairs(&cluster))] {
+        for pair in pairs {
+            write_pair(&made(folder.join(part).join(pair.folder)), &pair, &mut verdicts);
+        }
     }
     println!("make_cases: {} written", folder.display());
+}
+
+fn write_pair(folder: &Path, pair: &Pair, verdicts: &mut Verdicts) {
+    let Pair { roster, first, second, .. } = pair;
+    let lines = program::lines(Some(roster), Some(first), Some(second), verdicts);
+    let report = findings(roster, first, second, verdicts).bytes();
+    write(folder, "roster", roster);
+    write(folder, "first", first);
+    write(folder, "second", second);
+    write(folder, "expected", lines.as_bytes());
+    write(folder, "report", &report);
 }
 
 /// The folder, made if it is not there.

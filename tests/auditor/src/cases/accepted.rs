@@ -25,6 +25,17 @@ pub fn large(cluster: &Cluster) -> (Draft, Draft) {
     (first, second)
 }
 
+/// The largest submission that is accepted, of nine replicas with trees of height 25: 64 terms,
+/// 4,096 records, and everybody signs.
+pub fn largest(cluster: &Cluster) -> Draft {
+    let all = cluster.all();
+    let records: Vec<Record> = (0..4096u32)
+        .map(|i| Record { term: u32::MAX - 63 + i / 64, payload: sha256(&[&i.to_be_bytes()]) })
+        .collect();
+    let leaders: Vec<(u16, u16)> = (0..64).map(|i| (i % cluster.n() as u16 + 1, all)).collect();
+    cluster.submission(&records, &leaders, Some((4096, all)))
+}
+
 impl Cases<'_> {
     pub fn accepted(&mut self) {
         let every: Vec<(usize, u32)> = vec![
@@ -63,6 +74,9 @@ impl Cases<'_> {
             // The two differ in term 64, which replica 63 % 9 + 1 leads.
             let rest = "fork 4095\nboard 1 rule 2 term 64\n";
             self.lines("large", &cluster, &first, &second, rest);
+            let cluster = self.cluster(9, 9);
+            let (draft, none) = (largest(&cluster), empty(&cluster));
+            self.lines("the largest", &cluster, &none, &draft, "fork 0\n");
         }
     }
 

@@ -5,9 +5,10 @@
 //! audit_compare replay FOLDER  one case, from the files that a difference leaves behind
 //!
 //! A case that differs is written to a folder, as `roster`, `first`, `second` and `report_length`,
-//! beside `expected` and `given`, the report's buffers of both: to FAILED if it is set, otherwise
-//! to audit_compare.failed in the current folder. With TRACE set, each case is named and written
-//! there before it runs, so that one in which the library crashes is found.
+//! beside `report` and `given`, the expected and the given buffer: to FAILED if it is set,
+//! otherwise to audit_compare.failed in the current folder. bench/audit_tool.c runs it from there
+//! as well. With TRACE set, each case is named and written there before it runs, so that one in
+//! which the library crashes is found.
 
 mod library;
 mod replay;
@@ -122,22 +123,25 @@ impl Comparison {
             println!("{}, {}", self.set, case.name);
             self.write(case, &expected, None);
         }
-        let empty = [case.roster, case.first, case.second].iter().any(|part| part.is_empty());
-        for null in [false, true] {
-            if null && !empty && case.report != 0 {
-                break;
-            }
-            let given = library::ask(null, case);
-            self.calls += 1;
-            if given != expected {
-                let null = if null { ", no bytes given as NULL" } else { "" };
-                let Answer { number, .. } = given;
-                let why = format!("library {number}, expected {}{null}", expected.number);
-                self.differs(case, &why, &expected, Some(&given));
-            }
+        self.hold(case, "", &expected, library::ask(case));
+        let parts = [case.roster, case.first, case.second];
+        if parts.iter().any(|part| part.is_empty()) || case.report == 0 {
+            self.hold(case, ", no bytes given as NULL", &expected, library::ask_null(case));
+        }
+        if found.is_some_and(|found| library::findings(&expected.buffer) != found) {
+            self.differs(case, "the wrapper reads the report wrongly", &expected, None);
         }
         self.cases += 1;
         self.counts[expected.number as usize] += 1;
+    }
+
+    /// Stops if the library's answer is not the expected one.
+    fn hold(&mut self, case: &Case, how: &str, expected: &Answer, given: Answer) {
+        self.calls += 1;
+        if given != *expected {
+            let why = format!("library {}, expected {}{how}", given.number, expected.number);
+            self.differs(case, &why, expected, Some(&given));
+        }
     }
 
     /// Says so, writes the case out and stops.
@@ -160,7 +164,9 @@ impl Comparison {
         }
         let folder = env::var("FAILED").unwrap_or_else(|_| "audit_compare.failed".into());
         match replay::write(&folder, case, expected, given) {
-            Ok(()) => println!("audit_compare replay {folder} runs this case again"),
+            Ok(()) => println!(
+                "audit_compare replay {folder} runs this case again; so does audit_tool {folder}"
+            ),
             Err(error) => stop(&format!("{folder}: {error}; set FAILED to another folder")),
         }
     }

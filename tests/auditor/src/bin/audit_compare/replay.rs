@@ -19,7 +19,7 @@ pub fn write(
     fs::write(folder.join("first"), case.first)?;
     fs::write(folder.join("second"), case.second)?;
     fs::write(folder.join("report_length"), format!("{}\n", case.report))?;
-    fs::write(folder.join("expected"), &expected.buffer[..case.report])?;
+    fs::write(folder.join("report"), &expected.buffer[..case.report])?;
     if let Some(given) = given {
         fs::write(folder.join("given"), &given.buffer[..case.report])?;
     }

@@ -1,0 +1,108 @@
+/* The signatures of an accepted submission, each with its key and its statement (document 01). */
+#ifndef SLOTS_H
+#define SLOTS_H
+
+#include "files.h"
+#include "portable_sha256.h"
+
+enum { SLOTS_MOST = 64 * 10 + 9, STATEMENT_MOST = 63, KEY_SIZE = 56 };
+
+struct slot {
+    const uint8_t *key, *signature;
+    size_t signature_len, statement_len;
+    uint8_t statement[STATEMENT_MOST];
+};
+
+/* What the slots are read from, and how far. */
+struct slot_reader {
+    const uint8_t *roster, *at;
+    size_t signature_len, count;
+    struct slot *slots;
+};
+
+static inline uint32_t read_u32(const uint8_t *p)
+{
+    return (uint32_t)p[0] << 24 | (uint32_t)p[1] << 16 | (uint32_t)p[2] << 8 | p[3];
+}
+
+/* The slot of the next signature, by this replica: kind, cluster name and the fields. */
+static inline void take_slot(struct slot_reader *reader, unsigned replica, uint8_t kind,
+                             const uint8_t *fields, size_t len)
+{
+    struct slot *slot = &reader->slots[reader->count++];
+    slot->key = reader->roster + 18 + KEY_SIZE * (replica - 1);
+    slot->signature = reader->at;
+    slot->signature_len = reader->signature_len;
+    slot->statement[0] = kind;
+    memcpy(slot->statement + 1, reader->roster, 16);
+    memcpy(slot->statement + 17, fields, len);
+    slot->statement_len = 17 + len;
+    reader->at += reader->signature_len;
+}
+
+/* A slot for each signer, rising. */
+static inline void take_signers(struct slot_reader *reader, unsigned signers, uint8_t kind,
+                                const uint8_t *fields, size_t len)
+{
+    for (unsigned replica = 1; replica <= 9; replica++)
+        if (signers >> (replica - 1) & 1)
+            take_slot(reader, replica, kind, fields, len);
+}
+
+/* A stamp's or receipt's fields for the record at an index: term, index and pointer. */
+static inline void position(uint8_t fields[40], const uint8_t *records, const uint8_t *pointers,
+                            uint32_t index)
+{
+    memcpy(fields, records + 36 * (index - 1), 4);
+    portable_sha256_store(fields + 4, index);
+    memcpy(fields + 8, pointers + 32 * index, 32);
+}
+
+/* Pointers 0 to count, 32 bytes each. */
+static inline uint8_t *make_pointers(const uint8_t *records, uint32_t count)
+{
+    uint8_t *pointers = calloc(count + 1, 32), string[72];
+    for (uint32_t i = 1; pointers && i <= count; i++) {
+        portable_sha256_store(string, i);
+        memcpy(string + 4, records + 36 * (i - 1), 36);
+        memcpy(string + 40, pointers + 32 * (i - 1), 32);
+        portable_sha256(string, sizeof string, pointers + 32 * i);
+    }
+    return pointers;
+}
+
+/* Writes the slots of a submission that the audit accepts, at most SLOTS_MOST; their number. */
+static inline size_t read_slots(const struct file *roster, const struct file *submission,
+                                struct slot *slots)
+{
+    const uint8_t *records = submission->bytes, *trailer = records + submission->len - 44;
+    uint32_t count = read_u32(trailer + 16), leaders = read_u32(trailer + 20);
+    struct slot_reader reader = {roster->bytes, records + 36 * count,
+                                 1132 + 160 * (read_u32(roster->bytes + 18) - 4), 0, slots};
+    uint8_t *pointers = make_pointers(records, count), fields[40], candidates[64];
+    if (!pointers)
+        return 0;
+    for (uint32_t i = 0; i < leaders; i++) {
+        const uint8_t *vote = reader.at;
+        candidates[i] = vote[1];
+        reader.at += 48;
+        take_signers(&reader, (unsigned)vote[46] << 8 | vote[47], 3, vote, 46);
+    }
+    for (uint32_t i = 1, leader = 0; i <= count; i++) {
+        const uint8_t *record = records + 36 * (i - 1);
+        if (i < count && read_u32(record) == read_u32(record + 36))
+            continue;
+        position(fields, records, pointers, i);
+        take_slot(&reader, candidates[leader++], 1, fields, sizeof fields);
+    }
+    if (read_u32(trailer + 36) != 0) {
+        const uint8_t *commit = reader.at;
+        position(fields, records, pointers, read_u32(commit));
+        reader.at += 6;
+        take_signers(&reader, (unsigned)commit[4] << 8 | commit[5], 2, fields, sizeof fields);
+    }
+    free(pointers);
+    return reader.at == trailer ? reader.count : 0;
+}
+
+#endif

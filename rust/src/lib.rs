@@ -1,0 +1,73 @@
+//! A safe wrapper of libhirelog.a: the three services over slices, with plain values as answers.
+//!
+//! `include/hirelog.h` has each service's rules, and document 01 what they mean.
+
+mod report;
+mod sys;
+
+pub use report::{read_report, Charge, Findings, Place, Refusal, Refused, REPLICAS, REPORT_SIZE};
+
+/// The longest message, in bytes, that is given a digest or has its signature checked.
+pub const MESSAGE_MAX: usize = 16_777_216;
+
+/// What a signature check says.
+#[derive(Clone, Copy, Debug, PartialEq, Eq)]
+pub enum Verdict {
+    Good,
+    Bad,
+    /// The message is longer than `MESSAGE_MAX`: neither good nor bad.
+    LongMessage,
+}
+
+/// SHA-256 of the message; nothing if it is longer than `MESSAGE_MAX`.
+pub fn sha256(message: &[u8]) -> Option<[u8; 32]> {
+    let mut digest = [0; 32];
+    // SAFETY: the message is a slice, and the digest 32 bytes of its own.
+    let number = unsafe { sys::hirelog_sha256(message.as_ptr(), message.len(), &mut digest) };
+    (number == sys::OK).then_some(digest)
+}
+
+/// Whether an LMS signature (RFC 8554) of the message is good for the key.
+pub fn lms_check(key: &[u8], message: &[u8], signature: &[u8]) -> Verdict {
+    // SAFETY: each pointer is a slice's, with the slice's length.
+    let number = unsafe {
+        sys::hirelog_lms_check(
+            key.as_ptr(),
+            key.len(),
+            message.as_ptr(),
+            message.len(),
+            signature.as_ptr(),
+            signature.len(),
+        )
+    };
+    match number {
+        sys::OK => Verdict::Good,
+        sys::LONG_MESSAGE => Verdict::LongMessage,
+        _ => Verdict::Bad,
+    }
+}
+
+/// The audit of two submissions against a roster: what it finds, or what stops it.
+pub fn audit(roster: &[u8], first: &[u8], second: &[u8]) -> Result<Findings, Refused> {
+    let mut bytes = [0; REPORT_SIZE];
+    audit_into(roster, first, second, &mut bytes);
+    read_report(&bytes)
+}
+
+/// The audit as C has it: the number, with the report's bytes in the buffer's first 53. With number
+/// 1, for a shorter buffer, nothing is written.
+pub fn audit_into(roster: &[u8], first: &[u8], second: &[u8], report: &mut [u8]) -> u32 {
+    // SAFETY: each pointer is a slice's, with the slice's length; the report is lent to nobody else.
+    unsafe {
+        sys::hirelog_audit(
+            roster.as_ptr(),
+            roster.len(),
+            first.as_ptr(),
+            first.len(),
+            second.as_ptr(),
+            second.len(),
+            report.as_mut_ptr(),
+            report.len(),
+        )
+    }
+}

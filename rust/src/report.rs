@@ -1,0 +1,186 @@
+//! The audit's report, taken apart (document 01, What stops an audit, and The report).
+
+use std::fmt;
+
+/// Bytes of a report.
+pub const REPORT_SIZE: usize = 53;
+
+/// The most replicas (document 01's boards).
+pub const REPLICAS: usize = 9;
+
+/// Why an audit is refused; the value is document 01's number.
+#[derive(Clone, Copy, Debug, PartialEq, Eq, PartialOrd, Ord)]
+pub enum Refusal {
+    RosterSize = 2,
+    KeyType = 3,
+    TwinKey = 4,
+    Size = 5,
+    Version = 6,
+    Cluster = 7,
+    Counts = 8,
+    Layout = 9,
+    Signers = 10,
+    TermOrder = 11,
+    TermCount = 12,
+    Leader = 13,
+    CommitIndex = 14,
+    Signature = 15,
+}
+
+/// All refusals, from number 2 on.
+const REFUSALS: [Refusal; 14] = [
+    Refusal::RosterSize,
+    Refusal::KeyType,
+    Refusal::TwinKey,
+    Refusal::Size,
+    Refusal::Version,
+    Refusal::Cluster,
+    Refusal::Counts,
+    Refusal::Layout,
+    Refusal::Signers,
+    Refusal::TermOrder,
+    Refusal::TermCount,
+    Refusal::Leader,
+    Refusal::CommitIndex,
+    Refusal::Signature,
+];
+
+impl Refusal {
+    pub fn number(self) -> u8 {
+        self as u8
+    }
+
+    /// The refusal with this number, if there is one.
+    pub fn of(number: u8) -> Option<Refusal> {
+        REFUSALS.into_iter().find(|refusal| refusal.number() == number)
+    }
+
+    /// Document 01's word.
+    pub fn word(self) -> &'static str {
+        match self {
+            Refusal::RosterSize => "roster size",
+            Refusal::KeyType => "key type",
+            Refusal::TwinKey => "twin key",
+            Refusal::Size => "size",
+            Refusal::Version => "version",
+            Refusal::Cluster => "cluster",
+            Refusal::Counts => "counts",
+            Refusal::Layout => "layout",
+            Refusal::Signers => "signers",
+            Refusal::TermOrder => "term order",
+            Refusal::TermCount => "term count",
+            Refusal::Leader => "leader",
+            Refusal::CommitIndex => "commit index",
+            Refusal::Signature => "signature",
+        }
+    }
+}
+
+/// Where a refusal was found.
+#[derive(Clone, Copy, Debug, PartialEq, Eq)]
+pub enum Place {
+    Roster = 0,
+    First = 1,
+    Second = 2,
+}
+
+/// An audit that was stopped.
+#[derive(Clone, Copy, Debug, PartialEq, Eq)]
+pub struct Refused {
+    pub refusal: Refusal,
+    pub place: Place,
+}
+
+impl fmt::Display for Refused {
+    fn fmt(&self, to: &mut fmt::Formatter) -> fmt::Result {
+        let place = match self.place {
+            Place::Roster => "the roster",
+            Place::First => "the first submission",
+            Place::Second => "the second submission",
+        };
+        write!(to, "{} in {place}", self.refusal.word())
+    }
+}
+
+impl std::error::Error for Refused {}
+
+/// The lowest rule that a replica broke, and the lowest term for it.
+#[derive(Clone, Copy, Debug, PartialEq, Eq)]
+pub struct Charge {
+    pub rule: u8,
+    pub term: u32,
+}
+
+/// What two accepted submissions show.
+#[derive(Clone, Debug, PartialEq, Eq)]
+pub struct Findings {
+    /// The lowest index, committed in both, whose records differ.
+    pub fork: Option<u32>,
+    /// Replica k's charge has place k - 1.
+    pub charges: [Option<Charge>; REPLICAS],
+}
+
+impl Findings {
+    /// The replicas that are named, from 1, each with its charge.
+    pub fn named(&self) -> impl Iterator<Item = (usize, Charge)> + '_ {
+        let numbered = self.charges.iter().enumerate();
+        numbered.filter_map(|(place, charge)| charge.map(|charge| (place + 1, charge)))
+    }
+}
+
+/// Takes a report apart that the library has written, as `audit` does.
+pub fn read_report(bytes: &[u8; REPORT_SIZE]) -> Result<Findings, Refused> {
+    if let Some(refusal) = Refusal::of(bytes[0]) {
+        let place = match bytes[1] {
+            1 => Place::First,
+            2 => Place::Second,
+            _ => Place::Roster,
+        };
+        return Err(Refused { refusal, place });
+    }
+    let fork = u32_at(bytes, 2);
+    let named = u16::from_be_bytes([bytes[6], bytes[7]]);
+    let charge = |k: usize| Charge { rule: bytes[8 + 5 * k], term: u32_at(bytes, 9 + 5 * k) };
+    let charges = std::array::from_fn(|k| (named >> k & 1 == 1).then(|| charge(k)));
+    Ok(Findings { fork: (fork != 0).then_some(fork), charges })
+}
+
+fn u32_at(bytes: &[u8], at: usize) -> u32 {
+    u32::from_be_bytes(bytes[at..at + 4].try_into().expect("four bytes"))
+}
+
+#[cfg(test)]
+mod tests {
+    use super::*;
+
+    /// Each field of a report has its place.
+    #[test]
+    fn places() {
+        let mut bytes = [0; REPORT_SIZE];
+        assert_eq!(read_report(&bytes), Ok(Findings { fork: None, charges: [None; 9] }));
+        bytes[2..8].copy_from_slice(&[1, 2, 3, 4, 1, 2]);
+        bytes[13..18].copy_from_slice(&[3, 5, 6, 7, 8]);
+        bytes[48..].copy_from_slice(&[4, 255, 255, 255, 255]);
+        let found = read_report(&bytes).expect("accepted");
+        assert_eq!(found.fork, Some(0x01020304));
+        let two = Charge { rule: 3, term: 0x05060708 };
+        let nine = Charge { rule: 4, term: u32::MAX };
+        assert_eq!(found.named().collect::<Vec<_>>(), [(2, two), (9, nine)]);
+    }
+
+    /// Numbers 2 to 15 are refusals, each in the place that byte 1 names.
+    #[test]
+    fn refusals() {
+        for number in 2..=15 {
+            for (where_, place) in [(0, Place::Roster), (1, Place::First), (2, Place::Second)] {
+                let mut bytes = [0; REPORT_SIZE];
+                bytes[..2].copy_from_slice(&[number, where_]);
+                let refused = read_report(&bytes).expect_err("refused");
+                assert_eq!((refused.refusal.number(), refused.place), (number, place));
+            }
+        }
+        assert_eq!([0, 1, 16, 255].map(Refusal::of), [None; 4]);
+        let refused = Refused { refusal: Refusal::TwinKey, place: Place::Roster };
+        assert_eq!(refused.to_string(), "twin key in the roster");
+    }
+}
