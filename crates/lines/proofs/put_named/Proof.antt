@@ -1,0 +1,44 @@
+-- Nothing for a board that is not named, otherwise the line of the row's rule and term.
+-- Assumes nothing.
+use borrow.Author.Tests.{not-true, not-false}
+use borrow.Author.Needs.{needs}
+use Rattle.roster.specs.Masks.{signer}
+use Rattle.lines.proofs.Boards.{told, unnamed, named}
+use Rattle.lines.proofs.Puts.{put-none, put-same}
+use Rattle.lines.proofs.put_named.Statement.{statement}
+use Rattle.lines.proofs.put_named.Tie as tie
+
+returns : tie.Need-returns
+returns c =
+    let a = c .before .before .before .before .before .args in
+    let report = a .report .now in
+    let no-line = unnamed report (a .k) (told report (a .k) (c .before .before .u16-at .ensures .0) (c .before .signer .ensures) (not-true _ (c .if1 .taken))) in
+    put-same (put-none (a .out .now) (a .at) 49) no-line
+
+returns-2 : tie.Need-returns-2
+returns-2 c =
+    let a = c .before .before .before .before .before .before .before .before .before .before .before .before .args in
+    let report = a .report .now in
+    let rule = c .before .before .before .before .before .wide in
+    let term = c .before .before .before .before .u32-at in
+    let named-so = told report (a .k) (c .before .before .before .before .before .before .before .before .before .u16-at .ensures .0) (c .before .before .before .before .before .before .before .before .signer .ensures) (not-false _ (c .before .before .before .before .before .before .before .if1 .left)) in
+    put-same (c .before .before .put-board .ensures) (named report (a .k) (rule .result) (term .result) named-so (rule .ensures .0) (term .ensures .0))
+
+pub put-named-spec : {M : Type 1} → statement M
+put-named-spec =
+    tie.close
+    (tie.spec
+    (λ c κs. search needs)
+    (λ c κs. search needs)
+    returns
+    (λ c. search needs)
+    (λ c. search needs)
+    (λ c. search needs)
+    (λ c. search needs)
+    (λ c κs. search needs)
+    (λ c. search needs)
+    (λ c κs. search needs)
+    (λ c. search needs)
+    (λ c κs. search needs)
+    (λ c. search needs)
+    returns-2)
