@@ -1,11 +1,13 @@
 -- The rules, test by test in the code's order: the first test that fails, or the last, gives the answer.
 -- Assumes nothing.
-use mathlib.Core.Path.{_≡_}
-use mathlib.Core.Bool.{true, false, not}
+use mathlib.Core.Path.{_≡_, refl, sym, _∙_}
+use mathlib.Core.Bool.{Bool, true, false, not, cond}
+use mathlib.Core.List.{List, [], _∷_}
 use Prim.Native.Nat.{ℕ, _≤_, _<_}
 use native.Mathlib.Omega.{arith}
 use borrow.Author.Tests.{eq-eqb, ne-eqb, le-leb, lt-leb, lt-ltb, le-ltb}
-use lib.Dec.{eqb, leb}
+use lib.Dec.{eqb, leb, ltb}
+use Rattle.refusal.specs.Checks.{all}
 use Rattle.refusal.proofs.Laws.{first-fails, first-holds, all-one}
 use Rattle.roster.specs.Masks.{signer}
 use Rattle.replica.specs.Ends.{staler}
@@ -36,40 +38,49 @@ module _ (k : ℕ) (x y : Tenure) where
 
 -- ---- rule 2
 
-module _ (k d : ℕ) (x y : Tenure) where
-  pub no-stamp : (x .candidate ≡ k → ⊥) → false ≡ twoLogs k d x y
-  unfolding twoLogs
+module _ (k : ℕ) (x y : Tenure) where
+  -- stamps in one term
+  unfoldable pub stamps : List Bool
+  stamps = eqb (x .candidate) k ∷ eqb (y .candidate) k ∷ eqb (x .term) (y .term) ∷ []
+
+  pub no-stamp : (x .candidate ≡ k → ⊥) → false ≡ all stamps
+  unfolding stamps
   no-stamp h = first-fails _ _ (ne-eqb _ _ h)
 
   module _ (stamp : x .candidate ≡ k) where
-    pub no-second-stamp : (y .candidate ≡ k → ⊥) → false ≡ twoLogs k d x y
-    unfolding twoLogs
+    pub no-second-stamp : (y .candidate ≡ k → ⊥) → false ≡ all stamps
+    unfolding stamps
     no-second-stamp h = first-holds _ _ (eq-eqb _ _ stamp) (first-fails _ _ (ne-eqb _ _ h))
 
-    module _ (second : y .candidate ≡ k) where
-      pub other-stamp-term : (x .term ≡ y .term → ⊥) → false ≡ twoLogs k d x y
-      unfolding twoLogs
-      other-stamp-term h = first-holds _ _ (eq-eqb _ _ stamp) (first-holds _ _ (eq-eqb _ _ second) (first-fails _ _ (ne-eqb _ _ h)))
+    pub by-terms : y .candidate ≡ k → eqb (x .term) (y .term) ≡ all stamps
+    unfolding stamps
+    by-terms h = first-holds _ _ (eq-eqb _ _ stamp) (first-holds _ _ (eq-eqb _ _ h) (all-one _))
 
-      module _ (term : x .term ≡ y .term) where
-        pub no-difference : d ≡ 0 → false ≡ twoLogs k d x y
-        unfolding twoLogs
-        no-difference h =
-            first-holds _ _ (eq-eqb _ _ stamp) (first-holds _ _ (eq-eqb _ _ second)
-            (first-holds _ _ (eq-eqb _ _ term) (first-fails _ _ (le-ltb 0 d (omega arith)))))
+module _ (k d : ℕ) (x y : Tenure) where
+  -- the other tests after those
+  in-two : twoLogs k d x y ≡ cond (all (stamps k x y)) (all (ltb 0 d ∷ leb d (x .end) ∷ leb d (y .end) ∷ [])) false
+  unfolding twoLogs stamps all
+  in-two = three (eqb (x .candidate) k) (eqb (y .candidate) k) (eqb (x .term) (y .term)) (all (ltb 0 d ∷ leb d (x .end) ∷ leb d (y .end) ∷ []))
+    where
+      three : (a b c d : Bool) → cond a (cond b (cond c d false) false) false ≡ cond (cond a (cond b (cond c true false) false) false) d false
+      three true true true d = refl
+      three true true false d = refl
+      three true false c d = refl
+      three false b c d = refl
 
-        module _ (some : 0 < d) where
-          pub after-first : x .end < d → false ≡ twoLogs k d x y
-          unfolding twoLogs
-          after-first h =
-              first-holds _ _ (eq-eqb _ _ stamp) (first-holds _ _ (eq-eqb _ _ second)
-              (first-holds _ _ (eq-eqb _ _ term) (first-holds _ _ (lt-ltb 0 d some) (first-fails _ _ (lt-leb _ _ h)))))
+  pub not-both : all (stamps k x y) ≡ false → false ≡ twoLogs k d x y
+  not-both e = sym (rw e at in-two)
 
-          pub by-second : d ≤ x .end → leb d (y .end) ≡ twoLogs k d x y
-          unfolding twoLogs
-          by-second h =
-              first-holds _ _ (eq-eqb _ _ stamp) (first-holds _ _ (eq-eqb _ _ second)
-              (first-holds _ _ (eq-eqb _ _ term) (first-holds _ _ (lt-ltb 0 d some) (first-holds _ _ (le-leb _ _ h) (all-one _)))))
+  module _ (stamped : all (stamps k x y) ≡ true) where
+    pub no-difference : d ≡ 0 → false ≡ twoLogs k d x y
+    no-difference h = first-fails _ _ (le-ltb 0 d (omega arith)) ∙ sym (rw stamped at in-two)
+
+    module _ (some : 0 < d) where
+      pub after-first : x .end < d → false ≡ twoLogs k d x y
+      after-first h = first-holds _ _ (lt-ltb 0 d some) (first-fails _ _ (lt-leb _ _ h)) ∙ sym (rw stamped at in-two)
+
+      pub by-second : d ≤ x .end → leb d (y .end) ≡ twoLogs k d x y
+      by-second h = first-holds _ _ (lt-ltb 0 d some) (first-holds _ _ (le-leb _ _ h) (all-one _)) ∙ sym (rw stamped at in-two)
 
 -- ---- rules 3 and 4
 

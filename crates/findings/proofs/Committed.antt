@@ -1,6 +1,6 @@
 -- The receipts of a submission are those of its commit certificate, for the log up to the record that it names.
 -- Assumes nothing.
-use mathlib.Core.Path.{_≡_, refl, sym, ap, _∙_}
+use mathlib.Core.Path.{_≡_}
 use mathlib.Core.Bool.{true}
 use mathlib.Core.List.{List}
 use Prim.Native.Nat.{ℕ, _*_, _≤_}
@@ -19,8 +19,6 @@ use Rattle.layout.specs.Reader.{commitNumbersAt, commitPart}
 use Rattle.layout.proofs.Commits.{absent-says, found-says}
 use Rattle.layout.proofs.Inside.{records-inside}
 use Rattle.verification.proofs.Said.{take-records}
-use Rattle.findings.specs.declared.Receipt.{Receipt}
-use Rattle.findings.specs.declared.Receipts.{Receipts}
 use Rattle.findings.specs.declared.Receipts.the-variants.{Given, Absent}
 use Rattle.findings.specs.Rules.{receiptsBy, receipts}
 

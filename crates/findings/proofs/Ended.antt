@@ -2,7 +2,6 @@
 -- the last ends with the log.
 -- Assumes nothing.
 use mathlib.Core.Path.{_≡_, refl, sym, ap, _∙_}
-use mathlib.Core.Bool.{true}
 use mathlib.Core.List.{List, [], _∷_, map}
 use Prim.Native.Nat.{ℕ, zero, suc, _+_, _-_, _<_}
 use native.Mathlib.Omega.{arith}
@@ -13,14 +12,14 @@ use Rattle.chain.specs.Log.{Record, version1}
 use Rattle.roster.specs.Roster.{boards, signatureSize}
 use Rattle.submission.specs.Trailer.{recordCount, leaderCount}
 use Rattle.submission.specs.View.{Run, runs, leads, leadsOf}
-use Rattle.submission.specs.Reading.{ballotAt, recordsOf, certificateAt, certificateEnd, certificates, leadersFrom, view, stampsFrom}
+use Rattle.submission.specs.Reading.{recordsOf, certificateAt, certificateEnd, certificates, leadersFrom, view, stampsFrom}
 use Rattle.submission.specs.Validate.{formOf, viewOf, oneEach}
 use Rattle.submission.proofs.Accepted.{Sound, length-certificates}
 use Rattle.submission.proofs.Fits.{length-records}
 use Rattle.layout.specs.declared.reader.Certificate.{Certificate as Numbers}
 use Rattle.layout.specs.Reader.{numbersAt}
 use Rattle.leadership.proofs.Leads.{last-index-at}
-use Rattle.verification.proofs.Linked.{Linked, linked-runs, leadAt, leadsFrom, leads-first, TermsLeft, Turn, turn}
+use Rattle.verification.proofs.Linked.{Linked, linked-runs, leadAt, leadsFrom, leads-first, TermsLeft, turn}
 use Rattle.findings.specs.declared.Tenure.{Tenure}
 use Rattle.findings.specs.Rules.{tenure, tenures}
 use Rattle.findings.specs.Tenures.{endAt, tenureAt, tenuresAt, tenuresOf}

@@ -1,29 +1,26 @@
 -- What the terms and receipts of two accepted submissions show, as they are read, is what their signatures show: the terms are the log's, a
 -- board's row is that of the numbers, and the fork is that of the first difference.
 -- Assumes nothing.
-use mathlib.Core.Path.{_≡_, refl, sym, ap, _∙_}
+use mathlib.Core.Path.{_≡_, sym}
 use mathlib.Core.Bool.{true}
 use mathlib.Core.List.{List, map}
-use mathlib.Core.Option.{Option}
-use Prim.Native.Nat.{ℕ, _≤_, _<_}
+use Prim.Native.Nat.{ℕ, _<_}
 use native.Mathlib.Omega.{arith}
 use lib.ListN.{length}
 use Rattle.roster.specs.Roster.{boards, signatureSize, rosterNumber}
 use Rattle.roster.proofs.Accepted.{signature-bounds}
 use Rattle.chain.specs.Log.{version1}
-use Rattle.replica.specs.Charges.{Charge}
 use Rattle.submission.specs.Trailer.{recordCount}
 use Rattle.submission.specs.View.{slots}
 use Rattle.submission.specs.Reading.{recordsOf, view, laidOut}
 use Rattle.submission.specs.Validate.{within, formOf, viewOf, validate}
 use Rattle.submission.proofs.Accepted.{Sound, validated}
-use Rattle.forensics.specs.Findings.{differAt, fork, charges, lowest, rowCount, findings}
+use Rattle.forensics.specs.Findings.{differAt, fork, charges, lowest, findings}
 use Rattle.layout.specs.Reader.{Bounds}
 use Rattle.layout.proofs.Inside.{bounds}
 use Rattle.findings.specs.declared.Receipts.{Receipts}
 use Rattle.findings.specs.declared.Row.{Row}
-use Rattle.findings.specs.declared.Findings.{Findings}
-use Rattle.findings.specs.Rules.{tenures, receipts, ruledBy, ruled, rowsBy, forkOf, chargeOf, findingsOf}
+use Rattle.findings.specs.Rules.{receipts, ruledBy, ruled, rowsBy, forkOf, chargeOf, findingsOf}
 use Rattle.findings.specs.Tenures.{tenuresOf, read}
 use Rattle.findings.proofs.Boards.{rows-same}
 use Rattle.findings.proofs.Differ.{fork-ruled}

@@ -1,7 +1,9 @@
 // The four rules between two terms, or a receipt and a term, of two submissions, and the lower of two rows (document 01, "The report").
 ghost use mathlib.Core.Path.{_≡_};
-ghost use mathlib.Core.List.{[]};
+ghost use mathlib.Core.List.{[], _∷_};
 ghost use Prim.Native.Nat.{_<_};
+ghost use lib.Dec.{eqb};
+ghost use Rattle.refusal.specs.Checks.{all};
 ghost use Rattle.replica.specs.Ends as ends;
 ghost use Rattle.replica.specs.Charges.{charge};
 ghost use Rattle.forensics.specs.Findings.{lowest};
@@ -71,9 +73,9 @@ fn two_candidates(k: usize, x: Tenure, y: Tenure) -> bool
     x.candidate != y.candidate
 }
 
-// Rule 2: whether board k stamped different logs in one term. They differ first at an index, 0 for none.
-fn two_logs(k: usize, difference: usize, x: Tenure, y: Tenure) -> bool
-    ensures { λ r. ⌜ r ≡ paper.twoLogs k difference x y ⌝ }
+// Whether board k stamped in one term of both submissions.
+fn both_stamped(k: usize, x: Tenure, y: Tenure) -> bool
+    ensures { λ r. ⌜ r ≡ all (eqb (x .candidate) k ∷ eqb (y .candidate) k ∷ eqb (x .term) (y .term) ∷ []) ⌝ }
 {
     if x.candidate as usize != k {
         return false;
@@ -81,7 +83,14 @@ fn two_logs(k: usize, difference: usize, x: Tenure, y: Tenure) -> bool
     if y.candidate as usize != k {
         return false;
     }
-    if x.term != y.term {
+    x.term == y.term
+}
+
+// Rule 2: whether board k stamped different logs in one term. They differ first at an index, 0 for none.
+fn two_logs(k: usize, difference: usize, x: Tenure, y: Tenure) -> bool
+    ensures { λ r. ⌜ r ≡ paper.twoLogs k difference x y ⌝ }
+{
+    if !both_stamped(k, x, y) {
         return false;
     }
     if difference == 0 {

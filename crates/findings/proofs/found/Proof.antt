@@ -34,8 +34,20 @@ rows-requires c κs = let p = c .before .before .before .before .before .before 
 returns : tie.Need-returns
 returns c =
     let a = c .before .before .before .before .before .before .before .before .before .args in
-    read-says (a .size) (a .a .now) (a .b .now) _ _ (c .before .before .before .before .difference .ensures) (c .before .before .before .before .before .before .record-count .ensures .0) (c .before .before .before .before .before .record-count2 .ensures .0)
+    read-says (a .size) (a .a .now) (a .b .now) _ _ (c .before .before .before .before .difference .ensures)
+    (c .before .before .before .before .before .before .record-count .ensures .0)
+    (c .before .before .before .before .before .record-count2 .ensures .0)
     (c .before .before .before .receipts-of .ensures) (c .before .before .receipts-of2 .ensures) (c .before .fork .ensures) (c .rows .ensures)
 
 pub found-spec : {M : Type 1} → statement M
-found-spec = tie.close (tie.spec record-count-requires record-count-requires-2 difference-requires receipts-of-requires receipts-of-requires-2 (λ c κs. search needs) rows-requires returns)
+found-spec =
+    tie.close
+    (tie.spec
+    record-count-requires
+    record-count-requires-2
+    difference-requires
+    receipts-of-requires
+    receipts-of-requires-2
+    (λ c κs. search needs)
+    rows-requires
+    returns)

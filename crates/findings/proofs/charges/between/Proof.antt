@@ -14,9 +14,18 @@ returns : tie.Need-returns
 unfolding between
 returns c =
     let a = c .before .before .before .before .before .args in
-    let votes = c .before .before .before .charged .ensures ∙ ap (λ (b : Bool). lowest (charge b 1 (a .x .term))) (c .before .before .before .before .two-candidates .ensures) in
+    let votes = c .before .before .before .charged .ensures ∙ ap (λ (b : Bool). lowest (charge b 1 (a .x .term)))
+    (c .before .before .before .before .two-candidates .ensures) in
     let stamps = c .before .charged2 .ensures ∙ ap (λ (b : Bool). lowest (charge b 2 (a .x .term))) (c .before .before .two-logs .ensures) in
     joined _ _ votes stamps (c .lower .ensures)
 
 pub between-spec : {M : Type 1} → statement M
-between-spec = tie.close (tie.spec (λ c κs. search needs) (λ c κs. search needs) (λ c κs. search needs) (λ c κs. search needs) (λ c κs. search needs) returns)
+between-spec =
+    tie.close
+    (tie.spec
+    (λ c κs. search needs)
+    (λ c κs. search needs)
+    (λ c κs. search needs)
+    (λ c κs. search needs)
+    (λ c κs. search needs)
+    returns)

@@ -1,6 +1,5 @@
 -- A broken rule is the one charge; no rule broken is none.
 -- Assumes nothing.
-use mathlib.Core.Path.{sym, _∙_}
 use Rattle.findings.proofs.Charged.{charged-one, charged-none}
 use borrow.Author.Needs.{needs}
 use Rattle.findings.proofs.charges.charged.Statement.{statement}

@@ -2,7 +2,6 @@
 -- Assumes nothing.
 use mathlib.Core.Path.{sym, _∙_}
 use borrow.Author.Tests.{not-true, not-false}
-use native.Mathlib.Omega.{arith}
 use Rattle.findings.proofs.Broken.{no-receipt, no-later-vote, not-higher, by-staler}
 use borrow.Author.Needs.{needs}
 use Rattle.findings.proofs.charges.forgotten.Statement.{statement}
@@ -12,15 +11,31 @@ returns : tie.Need-returns
 returns c = no-receipt _ _ _ (sym (c .before .signer .ensures) ∙ not-true _ (c .if1 .taken))
 
 returns-2 : tie.Need-returns-2
-returns-2 c = no-later-vote _ _ _ (sym (c .before .before .before .signer .ensures) ∙ not-false _ (c .before .before .if1 .left)) (sym (c .before .signer2 .ensures) ∙ not-true _ (c .if2 .taken))
+returns-2 c =
+    no-later-vote _ _ _ (sym (c .before .before .before .signer .ensures) ∙ not-false _ (c .before .before .if1 .left))
+    (sym (c .before .signer2 .ensures) ∙ not-true _ (c .if2 .taken))
 
 returns-3 : tie.Need-returns-3
-returns-3 c = not-higher _ _ _ (sym (c .before .before .before .before .before .before .signer .ensures) ∙ not-false _ (c .before .before .before .before .before .if1 .left))
+returns-3 c =
+    not-higher _ _ _
+    (sym (c .before .before .before .before .before .before .signer .ensures) ∙ not-false _ (c .before .before .before .before .before .if1 .left))
     (sym (c .before .before .before .before .signer2 .ensures) ∙ not-false _ (c .before .before .before .if2 .left)) (c .if3 .taken)
 
 returns-4 : tie.Need-returns-4
-returns-4 c = c .staler .ensures ∙ by-staler _ _ _ (sym (c .before .before .before .before .before .before .before .signer .ensures) ∙ not-false _ (c .before .before .before .before .before .before .if1 .left))
-    (sym (c .before .before .before .before .before .signer2 .ensures) ∙ not-false _ (c .before .before .before .before .if2 .left)) (c .before .if3 .left)
+returns-4 c =
+    c .staler .ensures ∙ by-staler _ _ _
+    (sym (c .before .before .before .before .before .before .before .signer .ensures) ∙ not-false _ (c .before .before .before .before .before .before .if1 .left))
+    (sym (c .before .before .before .before .before .signer2 .ensures) ∙ not-false _ (c .before .before .before .before .if2 .left))
+    (c .before .if3 .left)
 
 pub forgotten-spec : {M : Type 1} → statement M
-forgotten-spec = tie.close (tie.spec (λ c κs. search needs) returns (λ c κs. search needs) returns-2 returns-3 (λ c κs. search needs) returns-4)
+forgotten-spec =
+    tie.close
+    (tie.spec
+    (λ c κs. search needs)
+    returns
+    (λ c κs. search needs)
+    returns-2
+    returns-3
+    (λ c κs. search needs)
+    returns-4)

@@ -13,10 +13,14 @@ returns-2 : tie.Need-returns-2
 returns-2 c = second-none _ _ (c .before .before .if1 .left) (c .if2 .taken)
 
 returns-3 : tie.Need-returns-3
-returns-3 c = second-lower _ _ (c .before .before .before .before .before .before .if1 .left) (c .before .before .before .before .if2 .left) (sym (c .before .staler .ensures) ∙ c .if3 .taken)
+returns-3 c =
+    second-lower _ _ (c .before .before .before .before .before .before .if1 .left) (c .before .before .before .before .if2 .left)
+    (sym (c .before .staler .ensures) ∙ c .if3 .taken)
 
 returns-4 : tie.Need-returns-4
-returns-4 c = first-lower _ _ (c .before .before .before .before .before .before .if1 .left) (c .before .before .before .before .if2 .left) (sym (c .before .staler .ensures) ∙ c .if3 .left)
+returns-4 c =
+    first-lower _ _ (c .before .before .before .before .before .before .if1 .left) (c .before .before .before .before .if2 .left)
+    (sym (c .before .staler .ensures) ∙ c .if3 .left)
 
 pub lower-spec : {M : Type 1} → statement M
 lower-spec = tie.close (tie.spec returns returns-2 (λ c. search needs) (λ c. search needs) (λ c κs. search needs) returns-3 returns-4)

@@ -11,15 +11,22 @@ returns : tie.Need-returns
 returns c = no-vote _ _ _ (sym (c .before .signer .ensures) ∙ not-true _ (c .if1 .taken))
 
 returns-2 : tie.Need-returns-2
-returns-2 c = no-second _ _ _ (sym (c .before .before .before .signer .ensures) ∙ not-false _ (c .before .before .if1 .left)) (sym (c .before .signer2 .ensures) ∙ not-true _ (c .if2 .taken))
+returns-2 c =
+    no-second _ _ _ (sym (c .before .before .before .signer .ensures) ∙ not-false _ (c .before .before .if1 .left))
+    (sym (c .before .signer2 .ensures) ∙ not-true _ (c .if2 .taken))
 
 returns-3 : tie.Need-returns-3
-returns-3 c = other-term _ _ _ (sym (c .before .before .before .before .before .before .signer .ensures) ∙ not-false _ (c .before .before .before .before .before .if1 .left))
+returns-3 c =
+    other-term _ _ _
+    (sym (c .before .before .before .before .before .before .signer .ensures) ∙ not-false _ (c .before .before .before .before .before .if1 .left))
     (sym (c .before .before .before .before .signer2 .ensures) ∙ not-false _ (c .before .before .before .if2 .left)) (c .if3 .taken)
 
 returns-4 : tie.Need-returns-4
-returns-4 c = by-candidates _ _ _ (sym (c .before .before .before .before .before .before .before .before .signer .ensures) ∙ not-false _ (c .before .before .before .before .before .before .before .if1 .left))
-    (sym (c .before .before .before .before .before .before .signer2 .ensures) ∙ not-false _ (c .before .before .before .before .before .if2 .left)) (c .before .before .if3 .left)
+returns-4 c =
+    by-candidates _ _ _
+    (sym (c .before .before .before .before .before .before .before .before .signer .ensures) ∙ not-false _ (c .before .before .before .before .before .before .before .if1 .left))
+    (sym (c .before .before .before .before .before .before .signer2 .ensures) ∙ not-false _ (c .before .before .before .before .before .if2 .left))
+    (c .before .before .if3 .left)
 
 pub two-candidates-spec : {M : Type 1} → statement M
 two-candidates-spec = tie.close (tie.spec (λ c κs. search needs) returns (λ c κs. search needs) returns-2 returns-3 returns-4)

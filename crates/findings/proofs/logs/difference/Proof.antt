@@ -1,12 +1,10 @@
 -- One record of each a turn: what is left of the logs differs first where all of them do.
 -- Assumes nothing.
 use mathlib.Core.Path.{_≡_, sym, _∙_}
-use Prim.Native.Nat.{suc, _-_, _*_, _≤_}
+use Prim.Native.Nat.{_-_, _≤_}
 use native.Mathlib.Numerals.{add-one}
-use native.Mathlib.Nat.{mul-suc}
 use native.Mathlib.Omega.{arith}
 use borrow.Author.Tests.{not-true, not-false}
-use lib.ListN.{length}
 use Rattle.words.proofs.Laws.{bytes-each}
 use Rattle.submission.specs.Reading.{recordSize, recordsOf}
 use Rattle.forensics.specs.Findings.{differAt}
@@ -45,7 +43,8 @@ unfolding recordSize
 returns-2 c =
     let a = c .before .before .before .before .before .before .before .args in
     let l = c .before .before .before .before .loop in
-    let test = record-test 4 (l .i) (a .a .now) (a .b .now) (bytes-each (a .a .now) (λ j. c .before .before .before .before .before .before .shared-slice-known .given j .fits))
+    let test = record-test 4 (l .i) (a .a .now) (a .b .now)
+    (bytes-each (a .a .now) (λ j. c .before .before .before .before .before .before .shared-slice-known .given j .fits))
     (bytes-each (a .b .now) (λ j. c .before .before .before .before .before .shared-slice-known2 .given j .fits)) (omega arith) (omega arith) in
     rw add-one
     (sym (from-here 4 (a .first) (a .second) (a .a .now) (a .b .now) (l .i) (c .before .before .before .loop-test .taken) (omega arith)
@@ -57,7 +56,8 @@ unfolding recordSize
 loop-again c =
     let a = c .before .before .before .before .before .before .before .args in
     let l = c .before .before .before .before .loop in
-    let test = record-test 4 (l .i) (a .a .now) (a .b .now) (bytes-each (a .a .now) (λ j. c .before .before .before .before .before .before .shared-slice-known .given j .fits))
+    let test = record-test 4 (l .i) (a .a .now) (a .b .now)
+    (bytes-each (a .a .now) (λ j. c .before .before .before .before .before .before .shared-slice-known .given j .fits))
     (bytes-each (a .b .now) (λ j. c .before .before .before .before .before .shared-slice-known2 .given j .fits)) (omega arith) (omega arith) in
     rw add-one (
       omega arith,
@@ -73,4 +73,18 @@ returns-3 c =
     sym (from-end-first 4 (a .first) (a .second) (a .a .now) (a .b .now) (l .i) (c .loop-test .left)) ∙ l .inv .1
 
 pub difference-spec : {M : Type 1} → statement M
-difference-spec = tie.close (tie.spec Inv-loop μ-loop loop-holds returns mul-same-record same-record-requires (λ c. omega arith) returns-2 (λ c. omega arith) (λ c. omega arith) loop-again returns-3)
+difference-spec =
+    tie.close
+    (tie.spec
+    Inv-loop
+    μ-loop
+    loop-holds
+    returns
+    mul-same-record
+    same-record-requires
+    (λ c. omega arith)
+    returns-2
+    (λ c. omega arith)
+    (λ c. omega arith)
+    loop-again
+    returns-3)

@@ -29,4 +29,15 @@ returns c =
     rw width at (same-test _ _ _ (c .same .ensures))
 
 pub same-record-spec : {M : Type 1} → statement M
-same-record-spec = tie.close (tie.spec add-end (λ c. search needs) (λ c. search needs) part-same-end (λ c. search needs) (λ c. search needs) part-same-end-2 (λ c κs. search needs) returns)
+same-record-spec =
+    tie.close
+    (tie.spec
+    add-end
+    (λ c. search needs)
+    (λ c. search needs)
+    part-same-end
+    (λ c. search needs)
+    (λ c. search needs)
+    part-same-end-2
+    (λ c κs. search needs)
+    returns)

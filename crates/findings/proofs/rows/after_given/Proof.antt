@@ -1,6 +1,5 @@
 -- One term of the other submission a turn.
 -- Assumes nothing.
-use mathlib.Core.List.{flatMap}
 use native.Mathlib.Omega.{arith}
 use Rattle.forensics.specs.Findings.{lowest}
 use Rattle.replica.specs.Charges.{charge}
@@ -14,7 +13,8 @@ use Rattle.findings.proofs.rows.after_given.Tie as tie
 
 abbrev Inv-loop : tie.InvT-loop
 Inv-loop k rule given s size best₀ left₀ at₀ best left at =
-    RowsLeft size s (λ y. charge (forgotten k given y) rule (y .term)) (lowest (afterReceipts k rule (Given given) (tenuresOf size s))) left at (chargeOf best)
+    RowsLeft size s (λ y. charge (forgotten k given y) rule (y .term)) (lowest (afterReceipts k rule (Given given) (tenuresOf size s))) left at
+    (chargeOf best)
 
 abbrev μ-loop : tie.MeasureT-loop
 μ-loop k rule given s size best₀ left₀ at₀ best left at = left
@@ -31,7 +31,8 @@ loop-holds : tie.Need-loop-holds Inv-loop μ-loop
 unfolding afterReceipts
 loop-holds c =
     let start = c .before .before .before .before in
-    rows-all (start .args .size) (start .args .s .now) _ (start .pre .3) (c .before .before .unnamed .ensures) (c .before .leader-count .ensures .0) (c .leaders-from .ensures)
+    rows-all (start .args .size) (start .args .s .now) _ (start .pre .3) (c .before .before .unnamed .ensures)
+    (c .before .leader-count .ensures .0) (c .leaders-from .ensures)
 
 certificate-end-requires : tie.Need-certificate-end-requires Inv-loop μ-loop
 certificate-end-requires c κs =
@@ -63,7 +64,8 @@ loop-again c =
     let a = c .before .before .before .before .before .before .before .before .before .before .args in
     let l = c .before .before .before .before .before .loop in
     rows-next (a .size) (a .s .now) _ _ (l .left) (l .at) (l .inv) (omega (arith, c .before .before .before .before .loop-test .taken))
-    (c .before .before .before .certificate-end .ensures) (c .before .before .tenure-at .ensures) (c .before .after-receipt .ensures) (c .lower .ensures)
+    (c .before .before .before .certificate-end .ensures) (c .before .before .tenure-at .ensures) (c .before .after-receipt .ensures)
+    (c .lower .ensures)
 
 returns : tie.Need-returns Inv-loop μ-loop
 returns c =
@@ -72,4 +74,21 @@ returns c =
     rows-done (a .size) (a .s .now) _ _ (l .left) (l .at) (l .inv) (omega arith)
 
 pub after-given-spec : {M : Type 1} → statement M
-after-given-spec = tie.close (tie.spec Inv-loop μ-loop (λ c κs. search needs) leader-count-requires leaders-from-requires loop-holds certificate-end-requires (λ c. omega arith) tenure-at-requires after-receipt-requires (λ c κs. search needs) (λ c. omega (arith, c .before .before .before .before .loop-test .taken)) (λ c. omega (arith, c .before .before .before .before .loop-test .taken)) loop-again returns)
+after-given-spec =
+    tie.close
+    (tie.spec
+    Inv-loop
+    μ-loop
+    (λ c κs. search needs)
+    leader-count-requires
+    leaders-from-requires
+    loop-holds
+    certificate-end-requires
+    (λ c. omega arith)
+    tenure-at-requires
+    after-receipt-requires
+    (λ c κs. search needs)
+    (λ c. omega (arith, c .before .before .before .before .loop-test .taken))
+    (λ c. omega (arith, c .before .before .before .before .loop-test .taken))
+    loop-again
+    returns)

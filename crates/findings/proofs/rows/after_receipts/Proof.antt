@@ -12,11 +12,20 @@ use Rattle.findings.proofs.rows.after_receipts.Tie as tie
 returns : tie.Need-returns
 returns c =
     let a = c .before .before .before .before .before .args in
-    c .after-given .ensures ∙ ap (λ (r : Receipts). lowest (afterReceipts (a .k) (a .rule) r (tenuresOf (a .size) (a .s .now)))) (sym (c .before .before .receipts .given .1))
+    c .after-given .ensures ∙ ap (λ (r : Receipts). lowest (afterReceipts (a .k) (a .rule) r (tenuresOf (a .size) (a .s .now))))
+    (sym (c .before .before .receipts .given .1))
 
 returns-2 : tie.Need-returns-2
 unfolding afterReceipts
 returns-2 c = rw (c .before .enum-told .given .1) (c .unnamed .ensures)
 
 pub after-receipts-spec : {M : Type 1} → statement M
-after-receipts-spec = tie.close (tie.spec (λ c. search needs) (λ c κs. search needs) (λ c. search needs) (λ c κs. search needs) returns returns-2)
+after-receipts-spec =
+    tie.close
+    (tie.spec
+    (λ c. search needs)
+    (λ c κs. search needs)
+    (λ c. search needs)
+    (λ c κs. search needs)
+    returns
+    returns-2)

@@ -28,7 +28,8 @@ leaders-from-requires c κs =
 loop-holds : tie.Need-loop-holds Inv-loop μ-loop
 loop-holds c =
     let start = c .before .before .before .before in
-    rows-all (start .args .size) (start .args .s .now) _ (start .pre .2) (c .before .before .unnamed .ensures) (c .before .leader-count .ensures .0) (c .leaders-from .ensures)
+    rows-all (start .args .size) (start .args .s .now) _ (start .pre .2) (c .before .before .unnamed .ensures)
+    (c .before .leader-count .ensures .0) (c .leaders-from .ensures)
 
 certificate-end-requires : tie.Need-certificate-end-requires Inv-loop μ-loop
 certificate-end-requires c κs =
@@ -69,4 +70,21 @@ returns c =
     rows-done (a .size) (a .s .now) _ _ (l .left) (l .at) (l .inv) (omega arith)
 
 pub against-spec : {M : Type 1} → statement M
-against-spec = tie.close (tie.spec Inv-loop μ-loop (λ c κs. search needs) leader-count-requires leaders-from-requires loop-holds certificate-end-requires (λ c. omega arith) tenure-at-requires between-requires (λ c κs. search needs) (λ c. omega (arith, c .before .before .before .before .loop-test .taken)) (λ c. omega (arith, c .before .before .before .before .loop-test .taken)) loop-again returns)
+against-spec =
+    tie.close
+    (tie.spec
+    Inv-loop
+    μ-loop
+    (λ c κs. search needs)
+    leader-count-requires
+    leaders-from-requires
+    loop-holds
+    certificate-end-requires
+    (λ c. omega arith)
+    tenure-at-requires
+    between-requires
+    (λ c κs. search needs)
+    (λ c. omega (arith, c .before .before .before .before .loop-test .taken))
+    (λ c. omega (arith, c .before .before .before .before .loop-test .taken))
+    loop-again
+    returns)

@@ -12,7 +12,8 @@ use Rattle.findings.proofs.rows.among_terms.Tie as tie
 
 abbrev Inv-loop : tie.InvT-loop
 Inv-loop k difference a b size best₀ left₀ at₀ best left at =
-    RowsLeft size a (λ x. flatMap (between k difference x) (tenuresOf size b)) (lowest (amongTerms k difference (tenuresOf size a) (tenuresOf size b))) left at (chargeOf best)
+    RowsLeft size a (λ x. flatMap (between k difference x) (tenuresOf size b))
+    (lowest (amongTerms k difference (tenuresOf size a) (tenuresOf size b))) left at (chargeOf best)
 
 abbrev μ-loop : tie.MeasureT-loop
 μ-loop k difference a b size best₀ left₀ at₀ best left at = left
@@ -29,7 +30,8 @@ loop-holds : tie.Need-loop-holds Inv-loop μ-loop
 unfolding amongTerms
 loop-holds c =
     let start = c .before .before .before .before .before in
-    rows-all (start .args .size) (start .args .a .now) _ (start .pre .2) (c .before .before .unnamed .ensures) (c .before .leader-count .ensures .0) (c .leaders-from .ensures)
+    rows-all (start .args .size) (start .args .a .now) _ (start .pre .2) (c .before .before .unnamed .ensures)
+    (c .before .leader-count .ensures .0) (c .leaders-from .ensures)
 
 certificate-end-requires : tie.Need-certificate-end-requires Inv-loop μ-loop
 certificate-end-requires c κs =
@@ -70,4 +72,21 @@ returns c =
     rows-done (a .size) (a .a .now) _ _ (l .left) (l .at) (l .inv) (omega arith)
 
 pub among-terms-spec : {M : Type 1} → statement M
-among-terms-spec = tie.close (tie.spec Inv-loop μ-loop (λ c κs. search needs) leader-count-requires leaders-from-requires loop-holds certificate-end-requires (λ c. omega arith) tenure-at-requires against-requires (λ c κs. search needs) (λ c. omega (arith, c .before .before .before .before .loop-test .taken)) (λ c. omega (arith, c .before .before .before .before .loop-test .taken)) loop-again returns)
+among-terms-spec =
+    tie.close
+    (tie.spec
+    Inv-loop
+    μ-loop
+    (λ c κs. search needs)
+    leader-count-requires
+    leaders-from-requires
+    loop-holds
+    certificate-end-requires
+    (λ c. omega arith)
+    tenure-at-requires
+    against-requires
+    (λ c κs. search needs)
+    (λ c. omega (arith, c .before .before .before .before .loop-test .taken))
+    (λ c. omega (arith, c .before .before .before .before .loop-test .taken))
+    loop-again
+    returns)

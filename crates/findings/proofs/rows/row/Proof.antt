@@ -17,7 +17,18 @@ after-receipts-requires-2 c κs = let p = c .before .before .before .before .pre
 
 returns : tie.Need-returns
 unfolding ruledBy
-returns c = joined _ _ (joined _ _ (c .before .before .before .before .among-terms .ensures) (c .before .before .before .after-receipts .ensures) (c .before .lower .ensures)) (c .before .before .after-receipts2 .ensures) (c .lower2 .ensures)
+returns c =
+    joined _ _
+    (joined _ _ (c .before .before .before .before .among-terms .ensures) (c .before .before .before .after-receipts .ensures) (c .before .lower .ensures))
+    (c .before .before .after-receipts2 .ensures) (c .lower2 .ensures)
 
 pub row-spec : {M : Type 1} → statement M
-row-spec = tie.close (tie.spec among-terms-requires after-receipts-requires after-receipts-requires-2 (λ c κs. search needs) (λ c κs. search needs) returns)
+row-spec =
+    tie.close
+    (tie.spec
+    among-terms-requires
+    after-receipts-requires
+    after-receipts-requires-2
+    (λ c κs. search needs)
+    (λ c κs. search needs)
+    returns)

@@ -28,10 +28,25 @@ array-set-from-out : tie.Need-array-set-from-out Inv-loop μ-loop
 array-set-from-out c = omega (arith, c .before .before .loop .inv .long)
 
 loop-again : tie.Need-loop-again Inv-loop μ-loop
-loop-again c = fill _ (c .before .before .loop .out) (c .before .before .loop .i) _ (c .before .before .loop .inv) (c .before .loop-test .taken) (c .row .ensures)
+loop-again c =
+    fill _ (c .before .before .loop .out) (c .before .before .loop .i) _ (c .before .before .loop .inv) (c .before .loop-test .taken)
+    (c .row .ensures)
 
 returns : tie.Need-returns Inv-loop μ-loop
 returns c = filled _ (c .before .loop .out) (c .before .loop .i) (c .before .loop .inv) (c .loop-test .left)
 
 pub rows-spec : {M : Type 1} → statement M
-rows-spec = tie.close (tie.spec Inv-loop μ-loop loop-holds (λ c. omega arith) row-requires (λ c. omega arith) array-set-from-out (λ c. omega arith) (λ c. omega arith) loop-again returns)
+rows-spec =
+    tie.close
+    (tie.spec
+    Inv-loop
+    μ-loop
+    loop-holds
+    (λ c. omega arith)
+    row-requires
+    (λ c. omega arith)
+    array-set-from-out
+    (λ c. omega arith)
+    (λ c. omega arith)
+    loop-again
+    returns)
