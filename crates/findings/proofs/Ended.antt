@@ -79,7 +79,8 @@ module _ (roster s : List ℕ) (S : ℕ) where
       ∷ terms-read later next (stamp + S) (t .of .upto) (t .later) rest k)
 
 -- those of a sound submission
-pub tenures-read : (roster s : List ℕ) → Sound (formOf roster) (boards roster) (viewOf roster s) → tenures (viewOf roster s) ≡ tenuresOf (signatureSize roster) s
+pub tenures-read : (roster s : List ℕ) → Sound (formOf roster) (boards roster) (viewOf roster s)
+    → tenures (viewOf roster s) ≡ tenuresOf (signatureSize roster) s
 unfolding tenures tenuresOf leads leadsFrom viewOf view oneEach formOf version1
 tenures-read roster s sound =
     let S = signatureSize roster in
