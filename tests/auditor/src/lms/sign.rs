@@ -42,6 +42,18 @@ impl OneTime {
         signature
     }
 
+    /// Every value of every chain, from the first to the end.
+    fn chains(&self) -> Vec<Vec<Digest>> {
+        let chain = |i: usize| {
+            let mut values = vec![self.secret(i)];
+            for j in 0..self.kind.largest_digit() {
+                values.push(self.leaf.chain(i, j, j + 1, values[j as usize]));
+            }
+            values
+        };
+        (0..self.kind.p).map(chain).collect()
+    }
+
     /// The sum in the checksum of the message's hash, to choose C by.
     pub fn checksum(&self, c: &Digest, message: &[u8]) -> u16 {
         self.kind.checksum(&self.leaf.message_hash(c, message)) >> self.kind.ls

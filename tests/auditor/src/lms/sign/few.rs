@@ -1,7 +1,8 @@
 //! A private key of which only a few neighbouring leaves have values; the nodes beside the way up
-//! from them are made up, and the root follows. So tall trees cost no more than low ones.
+//! from them are made up, and the root follows. So tall trees cost no more than low ones. All values
+//! of the leaves' chains are kept, so a signature costs no steps.
 
-use super::{inner_value, join, key, leaf_value, OneTime, OneTimeType, TreeType};
+use super::{inner_value, join, key, leaf_value, Leaf, OneTime, OneTimeType, TreeType};
 use crate::sha256::{sha256, Digest};
 
 /// The few leaves are those below one node at this height.
@@ -14,6 +15,8 @@ pub struct FewLeaves {
     seed: Digest,
     /// The number of the first leaf with a value.
     first: u32,
+    /// Each such leaf's chains, each with all of its values.
+    chains: Vec<Vec<Vec<Digest>>>,
     /// The nodes from the common one, here 1, to the leaves; number 0 is not used.
     nodes: Vec<Digest>,
     /// The made-up nodes, from the common node's sibling up.
@@ -32,13 +35,21 @@ impl FewLeaves {
     ) -> Self {
         let first = near >> LOW << LOW;
         let common = ((1u32 << tree.h) + first) >> LOW;
+        let chains: Vec<Vec<Vec<Digest>>> = (first..first + (1 << LOW))
+            .map(|q| OneTime::new(kind, identifier, q, seed).chains())
+            .collect();
         let mut nodes = vec![[0; 32]; 2 << LOW];
         for local in (1..nodes.len()).rev() {
             let depth = local.ilog2();
             let number = (common << depth) + local as u32 - (1 << depth);
             nodes[local] = if depth == LOW {
-                let one_time = OneTime::new(kind, identifier, number - (1 << tree.h), seed);
-                leaf_value(&identifier, number, &one_time.public())
+                let q = number - (1 << tree.h);
+                let ends: Vec<u8> = chains[(q - first) as usize]
+                    .iter()
+                    .flat_map(|chain| chain[chain.len() - 1])
+                    .collect();
+                let one_time_key = Leaf { identifier, q }.one_time_key(&ends);
+                leaf_value(&identifier, number, &one_time_key)
             } else {
                 inner_value(&identifier, number, &nodes[2 * local], &nodes[2 * local + 1])
             };
@@ -56,7 +67,7 @@ impl FewLeaves {
             };
         }
         let key = key(kind, tree, &identifier, &value);
-        FewLeaves { kind, tree, identifier, seed, first, nodes, path, key }
+        FewLeaves { kind, tree, identifier, seed, first, chains, nodes, path, key }
     }
 
     /// The public key.
@@ -75,11 +86,22 @@ impl FewLeaves {
         let c = sha256(&[b"C", &self.seed, message]);
         let pick = c[0] as usize % (1 << LOW);
         let q = self.first + pick as u32;
-        let one_time = OneTime::new(self.kind, self.identifier, q, self.seed);
         let low = (1 << LOW) + pick;
         let mut path: Vec<Digest> = (0..LOW).map(|up| self.nodes[(low >> up) ^ 1]).collect();
         path.extend(&self.path);
-        join(q, &one_time.sign(&c, message), self.tree, &path)
+        join(q, &self.one_time_signature(pick, q, &c, message), self.tree, &path)
+    }
+
+    /// RFC 8554, 4.5, algorithm 3, as `OneTime::sign` has it, from the values kept.
+    fn one_time_signature(&self, pick: usize, q: u32, c: &Digest, message: &[u8]) -> Vec<u8> {
+        let leaf = Leaf { identifier: self.identifier, q };
+        let digits = self.kind.digits(&leaf.message_hash(c, message));
+        let mut signature = self.kind.code.to_be_bytes().to_vec();
+        signature.extend(c);
+        for (chain, digit) in self.chains[pick].iter().zip(digits) {
+            signature.extend(chain[digit as usize]);
+        }
+        signature
     }
 }
 
@@ -98,6 +120,12 @@ mod tests {
                 for message in 0..8u8 {
                     let signature = few.sign(&[message]);
                     assert_eq!(signature.len(), few.signature_length());
+                    // The one-time signature is the one made from the seed.
+                    let q = u32::from_be_bytes(signature[..4].try_into().expect("four bytes"));
+                    let one_time = OneTime::new(few.kind, few.identifier, q, few.seed);
+                    let c = signature[8..40].try_into().expect("32 bytes");
+                    let made = one_time.sign(&c, &[message]);
+                    assert_eq!(signature[4..4 + made.len()], made);
                     assert_eq!(check(few.key(), &[message], &signature), Verdict::Good);
                     assert_eq!(check(few.key(), &[message + 1], &signature), Verdict::Bad);
                     leaves.push(signature[..4].to_vec());
