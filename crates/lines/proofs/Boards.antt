@@ -41,7 +41,8 @@ boards-more : (report : List ℕ) (count k : ℕ) → boardLines report (suc cou
 unfolding boardLines
 boards-more report zero k = append-nil (namedLine report k) ∙ ap (namedLine report) (sym (zero-add k))
 boards-more report (suc count) k =
-    rw (boards-more report count (suc k), suc-add, ← add-suc) (sym (append-assoc (namedLine report k) (boardLines report count (suc k)) (namedLine report (count + suc k))))
+    rw (boards-more report count (suc k), suc-add, ← add-suc)
+    (sym (append-assoc (namedLine report k) (boardLines report count (suc k)) (namedLine report (count + suc k))))
 
 module _ (report : List ℕ) {e : List ℕ} {at : ℕ} where
   pub no-boards : Put e e at at (boardLines report 0 1) 0

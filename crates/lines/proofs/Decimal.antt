@@ -15,6 +15,10 @@ use Rattle.lines.specs.Lines.{digits, decimal}
 
 -- ---- steps
 
+-- with the last digit of n
+abbrev ended : ℕ → List ℕ → List ℕ
+ended n l = l ++ (48 + n % 10) ∷ []
+
 digits-low : (f n : ℕ) → n < 10 → digits (suc f) n ≡ (48 + n) ∷ []
 unfolding digits
 digits-low f n h = rw (lt-ltb n 10 h)
@@ -33,7 +37,8 @@ digits-enough (suc f) zero n hf hg = absurd (omega arith)
 digits-enough (suc f) (suc g) n hf hg =
     ⊎-elim
     (λ (h : n < 10). digits-low f n h ∙ sym (digits-low g n h))
-    (λ (h : 10 ≤ n). digits-high f n h ∙ ap (λ (l : List ℕ). l ++ (48 + n % 10) ∷ []) (digits-enough f g (n / 10) (omega arith) (omega arith)) ∙ sym (digits-high g n h))
+    (λ (h : 10 ≤ n).
+    digits-high f n h ∙ ap (ended n) (digits-enough f g (n / 10) (omega arith) (omega arith)) ∙ sym (digits-high g n h))
     (below-ten n)
 
 -- ---- decimal
@@ -44,7 +49,7 @@ decimal-low n h = digits-low n n h
 
 pub decimal-high : (n : ℕ) → 10 ≤ n → decimal n ≡ decimal (n / 10) ++ (48 + n % 10) ∷ []
 unfolding decimal
-decimal-high n h = digits-high n n h ∙ ap (λ (l : List ℕ). l ++ (48 + n % 10) ∷ []) (digits-enough n (suc (n / 10)) (n / 10) (omega arith) (omega arith))
+decimal-high n h = digits-high n n h ∙ ap (ended n) (digits-enough n (suc (n / 10)) (n / 10) (omega arith) (omega arith))
 
 -- as many steps as there are digits are enough
 pub decimal-steps : (f n : ℕ) → n < 10 ^ suc f → decimal n ≡ digits (suc f) n
@@ -54,7 +59,7 @@ decimal-steps (suc f) n h =
     (λ (low : n < 10). decimal-low n low ∙ sym (digits-low (suc f) n low))
     (λ (high : 10 ≤ n).
     decimal-high n high
-    ∙ ap (λ (l : List ℕ). l ++ (48 + n % 10) ∷ []) (decimal-steps f (n / 10) (tenth f n h))
+    ∙ ap (ended n) (decimal-steps f (n / 10) (tenth f n h))
     ∙ sym (digits-high (suc f) n high))
     (below-ten n)
   where

@@ -21,7 +21,9 @@ module _ {e e₁ e₂ xs ys : List ℕ} {at b c r s : ℕ} where
   pub put-then : Put e e₁ at b xs r → Put e₁ e₂ b c ys s → Put e e₂ at c (xs ++ ys) (r + s)
   put-then p q =
       record {
-        stored = q .stored ∙ ap (λ (l : List ℕ). sets l b ys) (p .stored) ∙ ap (λ (k : ℕ). sets (sets e at xs) k ys) (p .after) ∙ sym (sets-append e at xs ys);
+        stored =
+            q .stored ∙ ap (λ (l : List ℕ). sets l b ys) (p .stored) ∙ ap (λ (k : ℕ). sets (sets e at xs) k ys) (p .after)
+            ∙ sym (sets-append e at xs ys);
         after = let long = length-append xs ys in let pa = p .after in let qa = q .after in omega arith;
         few = let long = length-append xs ys in let pf = p .few in let qf = q .few in omega arith;
       }

@@ -9,7 +9,11 @@ use Rattle.lines.proofs.put_board.Tie as tie
 returns : tie.Need-returns
 unfolding boardLine ascii
 returns c =
-    put-then (put-then (put-then (c .before .before .before .before .before .before .before .before .before .before .before .before .before .before .before .before .put-field .ensures) (c .before .before .before .before .before .before .before .before .before .before .before .put-field2 .ensures)) (c .before .before .before .before .before .before .put-field3 .ensures)) (c .before .before .put-end .ensures)
+    let second = c .before .before .before .before .before .before .before .before .before .before .before in
+    let board = second .before .before .before .before .before .put-field .ensures in
+    let rule = second .put-field2 .ensures in
+    let term = c .before .before .before .before .before .before .put-field3 .ensures in
+    put-then (put-then (put-then board rule) term) (c .before .before .put-end .ensures)
 
 pub put-board-spec : {M : Type 1} → statement M
 put-board-spec =

@@ -13,8 +13,9 @@ use Rattle.lines.proofs.put_field.Tie as tie
 returns : tie.Need-returns
 returns c =
     let a = c .before .before .before .before .before .before .before .before .before .before .args in
-    let word : Put (a .out .now) (c .before .before .before .before .before .before .put-bytes .last .0) (a .at) (a .at + length (a .word .now)) (a .word .now) (length (a .word .now)) =
-    record { stored = c .before .before .before .before .before .before .put-bytes .ensures; after = refl; few = le-refl (length (a .word .now)) } in
+    let bytes = c .before .before .before .before .before .before .put-bytes in
+    let word : Put (a .out .now) (bytes .last .0) (a .at) (a .at + length (a .word .now)) (a .word .now) (length (a .word .now)) =
+    record { stored = bytes .ensures; after = refl; few = le-refl (length (a .word .now)) } in
     put-then word (c .before .before .put-decimal .ensures)
 
 pub put-field-spec : {M : Type 1} → statement M

@@ -11,11 +11,11 @@ use Rattle.lines.proofs.put_lines.Tie as tie
 returns : tie.Need-returns
 unfolding lines
 returns c =
-    let report = c .before .before .before .before .before .before .before .before .before .before .before .before .before .before .before .before .before .before .before .args .report .now in
-    let number = c .before .before .before .before .before .before .before .before .before .before .before .before .before .before .wide .ensures .0 in
-    let side = c .before .before .before .before .before .before .before .before .before .before .before .before .wide2 .ensures .0 in
+    let first = c .before .before .before .before .before .before .before .before .before .before .before in
+    let number = first .before .before .before .wide .ensures .0 in
+    let side = first .before .wide2 .ensures .0 in
     let index = c .before .before .before .before .before .before .before .u32-at .ensures .0 in
-    let refusal = put-same (c .before .before .before .before .before .before .before .before .before .before .before .put-refusal .ensures) (refusal-of number side) in
+    let refusal = put-same (first .put-refusal .ensures) (refusal-of number side) in
     let fork = put-same (c .before .before .before .before .before .before .put-fork .ensures) (ap forkLine index) in
     put-then (put-then refusal fork) (c .before .before .put-boards .ensures)
 

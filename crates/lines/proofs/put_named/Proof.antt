@@ -12,8 +12,9 @@ returns : tie.Need-returns
 returns c =
     let a = c .before .before .before .before .before .args in
     let report = a .report .now in
-    let no-line = unnamed report (a .k) (told report (a .k) (c .before .before .u16-at .ensures .0) (c .before .signer .ensures) (not-true _ (c .if1 .taken))) in
-    put-same (put-none (a .out .now) (a .at) 49) no-line
+    let mask = c .before .before .u16-at .ensures .0 in
+    let told-not = told report (a .k) mask (c .before .signer .ensures) (not-true _ (c .if1 .taken)) in
+    put-same (put-none (a .out .now) (a .at) 49) (unnamed report (a .k) told-not)
 
 returns-2 : tie.Need-returns-2
 returns-2 c =
@@ -21,8 +22,11 @@ returns-2 c =
     let report = a .report .now in
     let rule = c .before .before .before .before .before .wide in
     let term = c .before .before .before .before .u32-at in
-    let named-so = told report (a .k) (c .before .before .before .before .before .before .before .before .before .u16-at .ensures .0) (c .before .before .before .before .before .before .before .before .signer .ensures) (not-false _ (c .before .before .before .before .before .before .before .if1 .left)) in
-    put-same (c .before .before .put-board .ensures) (named report (a .k) (rule .result) (term .result) named-so (rule .ensures .0) (term .ensures .0))
+    let mask = c .before .before .before .before .before .before .before .before .before .u16-at .ensures .0 in
+    let test = c .before .before .before .before .before .before .before .before .signer .ensures in
+    let told-so = told report (a .k) mask test (not-false _ (c .before .before .before .before .before .before .before .if1 .left)) in
+    put-same (c .before .before .put-board .ensures)
+    (named report (a .k) (rule .result) (term .result) told-so (rule .ensures .0) (term .ensures .0))
 
 pub put-named-spec : {M : Type 1} → statement M
 put-named-spec =

@@ -9,7 +9,9 @@ use Rattle.lines.proofs.put_refusal.Tie as tie
 returns : tie.Need-returns
 unfolding refusalLine ascii
 returns c =
-    put-then (put-then (c .before .before .before .before .before .before .before .before .before .before .before .put-field .ensures) (c .before .before .before .before .before .before .put-field2 .ensures)) (c .before .before .put-end .ensures)
+    let number = c .before .before .before .before .before .before .before .before .before .before .before .put-field .ensures in
+    let side = c .before .before .before .before .before .before .put-field2 .ensures in
+    put-then (put-then number side) (c .before .before .put-end .ensures)
 
 pub put-refusal-spec : {M : Type 1} → statement M
 put-refusal-spec =

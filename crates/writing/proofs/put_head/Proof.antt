@@ -7,8 +7,9 @@ use Rattle.writing.proofs.put_head.Tie as tie
 
 returns : tie.Need-returns
 returns c =
-    let a = c .before .before .before .before .before .before .before .before .before .before .before .before .before .before .before .before .before .args in
-    let one = c .before .before .before .before .before .before .before .before .before .before .before .before .before .before .put-u8 in
+    let first = c .before .before .before .before .before .before .before .before .before .before .before .before .before .before in
+    let a = first .before .before .before .args in
+    let one = first .put-u8 in
     let two = c .before .before .before .before .before .before .before .before .before .before .put-u82 in
     let three = c .before .before .before .before .before .before .put-u32 in
     let four = c .before .before .put-u16 in
