@@ -98,7 +98,7 @@ uint32_t hirelog_lms_check(const uint8_t *key, size_t key_len, const uint8_t *me
                            size_t message_len, const uint8_t *signature, size_t signature_len);
 
 /*
- * The audit of two submissions against a roster (document 01): which replicas signed statements
+ * The audit of two submissions against a roster (document 01): which boards signed statements
  * that contradict each other, and the first index at which both committed different records.
  *
  * Returns the report's number: HIRELOG_OK if both submissions are accepted, else the lowest of 1
@@ -111,8 +111,8 @@ uint32_t hirelog_lms_check(const uint8_t *key, size_t key_len, const uint8_t *me
  *   byte 0        the number;
  *   byte 1        where: 1 or 2 for a number of that submission, else 0;
  *   bytes 2 to 5  the fork index, 0 if there is none;
- *   bytes 6 to 7  the replicas named: bit k - 1, counted from the lowest, is replica k;
- *   bytes 8 to 52 nine rows of 5 bytes, for replicas 1 to 9: the lowest rule that the replica
+ *   bytes 6 to 7  the boards named: bit k - 1, counted from the lowest, is board k;
+ *   bytes 8 to 52 nine rows of 5 bytes, for boards 1 to 9: the lowest rule that the board
  *                 broke (1 byte) and the lowest term for it (4 bytes), 0 and 0 if it is not named.
  * After a refusal bytes 2 to 52 are 0.
  *
