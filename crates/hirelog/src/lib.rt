@@ -12,7 +12,7 @@ pub extern "C" fn hirelog_sha256(message: &[u8], digest: &mut [u8; 32]) -> u32
     ensures number { λ r. ⌜ r ≡ digestNumber (now (message .entry)) ⌝ }
     ensures bytes { λ _. ⌜ now (digest .exit) ≡ digestAfter (now (message .entry)) (now (digest .entry)) ⌝ }
 {
-    sha256::digest(message, digest)
+    digest::digest(message, digest)
 }
 
 // The LMS signature check (document 01, "Digest and signature"; RFC 8554): 0 for good, 15 for bad, and 16, before

@@ -6,7 +6,7 @@ use native.Mathlib.Nat.{mod-lt, div-le-self, lt-of-le-of-lt}
 use lib.Dec.{lit<}
 use lib.Bits.{bitXor, xor-comm, xor-lt}
 use Rattle.sha256.specs.Sha256.{rotr}
-use Rattle.sha256.proofs.Bitwise.{xor-assoc, rotr-shifts}
+use Rattle.sha256_schedule.proofs.Bitwise.{xor-assoc, rotr-shifts}
 
 shl-fits : (k x : ℕ) → x * 2 ^ k % 2 ^ 32 < 2 ^ 32
 shl-fits k x = mod-lt (x * 2 ^ k) (lit< tt)

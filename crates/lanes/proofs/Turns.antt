@@ -8,9 +8,9 @@ use native.Mathlib.Omega.{arith}
 use lib.ListN.{length, getD, take, set, length-append, List·getD-append, List·getD-map}
 use lib.Seq.{getD-set-same, getD-set-other, getD-take, length-take-le}
 use Rattle.sha256.specs.declared.State.{State}
-use Rattle.sha256.specs.Constants.{constants}
+use Rattle.sha256_tables.specs.Constants.{constants}
 use Rattle.sha256.specs.Sha256.{_⊞_, σ₀, σ₁, nextWord, extend, schedule, round, rounds}
-use Rattle.sha256.proofs.Extend.{extend-step}
+use Rattle.sha256_schedule.proofs.Extend.{extend-step}
 use Rattle.sha256.proofs.Rounds.{rounds-add}
 use Rattle.lanes.specs.declared.Lanes.{Lanes}
 use Rattle.lanes.specs.declared.Pair.{Pair}

@@ -8,9 +8,9 @@ ghost use mathlib.Core.Path.{_≡_};
 ghost use Rattle.sha256.specs.Sha256 as fips;
 ghost use Rattle.sha256.specs.Sha256.{_⊞_, σ₀, σ₁};
 use sha256::State;
-use sha256::functions::add;
-use sha256::functions::choose;
-use sha256::functions::majority;
+use sha256_schedule::functions::add;
+use sha256_schedule::functions::choose;
+use sha256_schedule::functions::majority;
 
 fn big_sigma0(x: u32) -> u32
     ensures { λ r. ⌜ r ≡ fips.Σ₀ x ⌝ }

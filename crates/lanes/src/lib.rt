@@ -158,7 +158,7 @@ fn start(s: State) -> [Pair; 68]
 fn rounds(s: State, b0: [u32; 16], b1: [u32; 16], b2: [u32; 16], b3: [u32; 16]) -> Four
     ensures { λ r. ⌜ ((l : Lane) → state l r ≡ fips.rounds 64 0 (fips.schedule (pick l b0 b1 b2 b3)) s) ⌝ }
 {
-    let k = sha256::K;
+    let k = sha256_tables::K;
     let mut w = load(b0, b1, b2, b3);
     let mut x = start(s);
     let mut i = 0;

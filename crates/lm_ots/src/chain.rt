@@ -1,7 +1,7 @@
 // The steps of the chains of a one-time signature, in words (RFC 8554, 4.6, algorithm 4b, step 3).
 ghost use mathlib.Core.Path.{_≡_};
 ghost use mathlib.Core.List.{_++_};
-ghost use Prim.Native.Nat.{_<_};
+ghost use Prim.Native.Nat.{_+_, _*_, _/_, _%_, _<_};
 ghost use Rattle.words.specs.BigEndian.{be};
 ghost use Rattle.sha256.specs.Sha256.{parse, padding, bytesOf};
 ghost use Rattle.lm_hash.specs.Identifier.{identifier};
@@ -10,6 +10,13 @@ ghost use Rattle.lm_ots.specs.Values.{stepped};
 use lanes::Four;
 use lm_hash::Leaf;
 use sha256::State;
+
+// The three low bytes of a word, and the highest byte of the next.
+fn across(x: u32, y: u32) -> u32
+    ensures { λ r. ⌜ r ≡ x % 16777216 * 256 + y / 16777216 ⌝ }
+{
+    x % 16777216 * 256 + y / 16777216
+}
 
 // The block of step j of chain i: I, q, i, j and the value, 55 bytes in all, with their padding.
 fn step_block(leaf: Leaf, i: u32, j: u32, t: State) -> [u32; 16]
@@ -23,13 +30,13 @@ fn step_block(leaf: Leaf, i: u32, j: u32, t: State) -> [u32; 16]
         leaf.i3,
         leaf.q,
         i * 65536 + j * 256 + t.a / 16777216,
-        t.a % 16777216 * 256 + t.b / 16777216,
-        t.b % 16777216 * 256 + t.c / 16777216,
-        t.c % 16777216 * 256 + t.d / 16777216,
-        t.d % 16777216 * 256 + t.e / 16777216,
-        t.e % 16777216 * 256 + t.f / 16777216,
-        t.f % 16777216 * 256 + t.g / 16777216,
-        t.g % 16777216 * 256 + t.h / 16777216,
+        across(t.a, t.b),
+        across(t.b, t.c),
+        across(t.c, t.d),
+        across(t.d, t.e),
+        across(t.e, t.f),
+        across(t.f, t.g),
+        across(t.g, t.h),
         t.h % 16777216 * 256 + 128,
         0,
         440,

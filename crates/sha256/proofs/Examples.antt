@@ -4,7 +4,7 @@ use mathlib.Core.Path.{_≡_, refl}
 use mathlib.Core.List.{List, [], _∷_, flatMap}
 use Prim.Native.Nat.{ℕ}
 use Rattle.words.specs.BigEndian.{number, be}
-use Rattle.sha256.specs.Constants.{constants, initialWords}
+use Rattle.sha256_tables.specs.Constants.{constants, initialWords}
 use Rattle.sha256.specs.Sha256.{_⊞_, shr, rotr, ch, maj, Σ₀, Σ₁, σ₀, σ₁, zeros, padding, parse, nextWord, extend, schedule, temp₁, temp₂, round, rounds, plus, compress, blocks, hash, initial, wordsOf, bytesOf, sha256}
 
 -- "abc" (FIPS 180-2, appendix B.1)

@@ -6,7 +6,7 @@ use Prim.Native.Nat.{ℕ, zero, suc, _+_}
 use native.Mathlib.Nat.{zero-add, suc-add, add-zero, add-suc, add-assoc}
 use lib.ListN.{getD}
 use Rattle.sha256.specs.declared.State.{State}
-use Rattle.sha256.specs.Constants.{constants}
+use Rattle.sha256_tables.specs.Constants.{constants}
 use Rattle.sha256.specs.Sha256.{round, rounds}
 
 pub rounds-add : (m n t : ℕ) (w : List ℕ) (s : State) → rounds (m + n) t w s ≡ rounds n (t + m) w (rounds m t w s)

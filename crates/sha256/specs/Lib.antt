@@ -1,3 +1,2 @@
-pub mod Constants
 pub mod Sha256
 pub mod Service

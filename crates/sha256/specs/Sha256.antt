@@ -1,46 +1,12 @@
--- SHA-256 of a list of bytes, as FIPS 180-4 defines it. Words are of 32 bits, numbers below 2^32.
+-- SHA-256 of a list of bytes, as FIPS 180-4 defines it. Words are of 32 bits, numbers below 2^32: the operations on them, the
+-- functions of 4.1.2 and the message schedule stand in `sha256_schedule`.
 use mathlib.Core.List.{List, [], _∷_, _++_, flatMap}
-use Prim.Native.Nat.{ℕ, zero, suc, _+_, _-_, _*_, _/_, _%_, _^_}
-use lib.Bits.{bitAnd, bitOr, bitXor}
+use Prim.Native.Nat.{ℕ, zero, suc, _+_, _-_, _*_, _/_, _%_}
 use lib.ListN.{length, getD, take, drop, replicate}
 use Rattle.words.specs.BigEndian.{number, be}
 use Rattle.sha256.specs.declared.State.{State}
-use Rattle.sha256.specs.Constants.{constants, initialWords}
-
-infixl 65 _⊞_
--- ---- operations on words
-
--- 2.2.2: addition modulo 2^32
-unfoldable pub _⊞_ : ℕ → ℕ → ℕ
-x ⊞ y = (x + y) % 2 ^ 32
-
--- 3.2, 4: SHR and ROTR
-unfoldable pub shr : ℕ → ℕ → ℕ
-shr n x = x / 2 ^ n
-
-unfoldable pub rotr : ℕ → ℕ → ℕ
-rotr n x = bitOr (shr n x) (x * 2 ^ (32 - n) % 2 ^ 32)
-
--- ---- 4.1.2: the functions
-
--- (x and y) xor (not x and z)
-unfoldable pub ch : ℕ → ℕ → ℕ → ℕ
-ch x y z = bitXor (bitAnd x y) (bitAnd (2 ^ 32 - 1 - x) z)
-
-unfoldable pub maj : ℕ → ℕ → ℕ → ℕ
-maj x y z = bitXor (bitXor (bitAnd x y) (bitAnd x z)) (bitAnd y z)
-
-unfoldable pub Σ₀ : ℕ → ℕ
-Σ₀ x = bitXor (bitXor (rotr 2 x) (rotr 13 x)) (rotr 22 x)
-
-unfoldable pub Σ₁ : ℕ → ℕ
-Σ₁ x = bitXor (bitXor (rotr 6 x) (rotr 11 x)) (rotr 25 x)
-
-unfoldable pub σ₀ : ℕ → ℕ
-σ₀ x = bitXor (bitXor (rotr 7 x) (rotr 18 x)) (shr 3 x)
-
-unfoldable pub σ₁ : ℕ → ℕ
-σ₁ x = bitXor (bitXor (rotr 17 x) (rotr 19 x)) (shr 10 x)
+use Rattle.sha256_tables.specs.Constants.{constants, initialWords}
+unfoldable pub use Rattle.sha256_schedule.specs.Words.{_⊞_, shr, rotr, ch, maj, Σ₀, Σ₁, σ₀, σ₁, nextWord, extend, schedule}
 
 -- ---- 5.1.1: padding, in bytes: a one bit with seven zeros, the fewest zero bytes, the length in bits as 8 bytes
 
@@ -57,20 +23,6 @@ padding len = 128 ∷ replicate (zeros len) 0 ++ be 8 (8 * len)
 unfoldable pub parse : ℕ → List ℕ → List ℕ
 parse zero bytes = []
 parse (suc n) bytes = number (take 4 bytes) ∷ parse n (drop 4 bytes)
-
--- ---- 6.2.2, step 1: the message schedule
-
--- W_t from the words before it, for t from 16 on
-unfoldable pub nextWord : List ℕ → ℕ → ℕ
-nextWord w t = σ₁ (getD w (t - 2) 0) ⊞ getD w (t - 7) 0 ⊞ σ₀ (getD w (t - 15) 0) ⊞ getD w (t - 16) 0
-
--- the sixteen words of a block, and n words more
-unfoldable pub extend : ℕ → List ℕ → List ℕ
-extend zero m = m
-extend (suc n) m = let w = extend n m in w ++ (nextWord w (16 + n) ∷ [])
-
-unfoldable pub schedule : List ℕ → List ℕ
-schedule m = extend 48 m
 
 -- ---- 6.2.2, steps 2 and 3: the rounds, on the working variables a to h
 

@@ -1,21 +1,18 @@
-// SHA-256 (FIPS 180-4): the state by value, its methods, and the digest of a message
-// (document 01, "Digest and signature").
+// SHA-256 (FIPS 180-4): the state by value, and its methods (document 01, "Digest and signature").
 ghost use mathlib.Core.Path.{_≡_};
 ghost use Prim.Native.Nat.{_+_, _-_, _%_, _^_, _≤_, _<_};
 ghost use mathlib.Core.List.{_∷_, _++_, flatMap};
 ghost use lib.ListN.{length, take, drop, replicate};
 ghost use Rattle.words.specs.BigEndian.{be};
+ghost use Rattle.sha256_tables.specs.Constants.{constants};
 ghost use Rattle.sha256.specs.Sha256 as fips;
-ghost use Rattle.sha256.specs.Service.{digestNumber, digestAfter};
-
-pub mod functions;
-mod schedule;
-
-use functions::add;
-use functions::big_sigma0;
-use functions::big_sigma1;
-use functions::choose;
-use functions::majority;
+use sha256_schedule::functions::add;
+use sha256_schedule::functions::big_sigma0;
+use sha256_schedule::functions::big_sigma1;
+use sha256_schedule::functions::choose;
+use sha256_schedule::functions::majority;
+use sha256_tables::INITIAL;
+use sha256_tables::K;
 
 // The hash value, and the working variables of a block (FIPS 180-4, 6.2).
 pub struct State {
@@ -29,91 +26,20 @@ pub struct State {
     pub h: u32,
 }
 
-// The most bytes that a message may have (document 01, "Digest and signature").
-pub const MESSAGE_MAX: usize = 16777216;
-
-// FIPS 180-4, 4.2.2.
-pub const K: [u32; 64] = [
-    0x428a_2f98,
-    0x7137_4491,
-    0xb5c0_fbcf,
-    0xe9b5_dba5,
-    0x3956_c25b,
-    0x59f1_11f1,
-    0x923f_82a4,
-    0xab1c_5ed5,
-    0xd807_aa98,
-    0x1283_5b01,
-    0x2431_85be,
-    0x550c_7dc3,
-    0x72be_5d74,
-    0x80de_b1fe,
-    0x9bdc_06a7,
-    0xc19b_f174,
-    0xe49b_69c1,
-    0xefbe_4786,
-    0x0fc1_9dc6,
-    0x240c_a1cc,
-    0x2de9_2c6f,
-    0x4a74_84aa,
-    0x5cb0_a9dc,
-    0x76f9_88da,
-    0x983e_5152,
-    0xa831_c66d,
-    0xb003_27c8,
-    0xbf59_7fc7,
-    0xc6e0_0bf3,
-    0xd5a7_9147,
-    0x06ca_6351,
-    0x1429_2967,
-    0x27b7_0a85,
-    0x2e1b_2138,
-    0x4d2c_6dfc,
-    0x5338_0d13,
-    0x650a_7354,
-    0x766a_0abb,
-    0x81c2_c92e,
-    0x9272_2c85,
-    0xa2bf_e8a1,
-    0xa81a_664b,
-    0xc24b_8b70,
-    0xc76c_51a3,
-    0xd192_e819,
-    0xd699_0624,
-    0xf40e_3585,
-    0x106a_a070,
-    0x19a4_c116,
-    0x1e37_6c08,
-    0x2748_774c,
-    0x34b0_bcb5,
-    0x391c_0cb3,
-    0x4ed8_aa4a,
-    0x5b9c_ca4f,
-    0x682e_6ff3,
-    0x748f_82ee,
-    0x78a5_636f,
-    0x84c8_7814,
-    0x8cc7_0208,
-    0x90be_fffa,
-    0xa450_6ceb,
-    0xbef9_a3f7,
-    0xc671_78f2,
-];
-
 impl State {
     // The initial hash value (FIPS 180-4, 5.3.3).
     pub fn new() -> State
         ensures { λ r. ⌜ r ≡ fips.initial ⌝ }
     {
         State {
-            a: 0x6a09_e667,
-            b: 0xbb67_ae85,
-            c: 0x3c6e_f372,
-            d: 0xa54f_f53a,
-            e: 0x510e_527f,
-            f: 0x9b05_688c,
-            g: 0x1f83_d9ab,
-            h: 0x5be0_cd19,
+            a: INITIAL[0],
+            b: INITIAL[1],
+            c: INITIAL[2],
+            d: INITIAL[3],
+            e: INITIAL[4],
+            f: INITIAL[5],
+            g: INITIAL[6],
+            h: INITIAL[7],
         }
     }
 
@@ -132,7 +58,7 @@ impl State {
         add(big_sigma0(self.a), majority(self.a, self.b, self.c))
     }
 
-    // One round, with its constant and its word of the schedule.
+    // One round, with a constant and a word of the schedule.
     fn round(self, k: u32, w: u32) -> State
         ensures { λ r. ⌜ r ≡ fips.round self k w ⌝ }
     {
@@ -166,139 +92,157 @@ impl State {
         }
     }
 
+    // Round t, with its constant and its word of the schedule.
+    fn round_at(self, k: &[u32; 64], w: &[u32; 64], t: usize) -> State
+        requires { ⌜ (t < 64) × (now k ≡ constants) ⌝ }
+        ensures { λ r. ⌜ r ≡ fips.rounds 1 t (now (w .entry)) self ⌝ }
+    {
+        self.round(k[t], w[t])
+    }
+
     // Rounds 0 to 7.
-    fn rounds_0(self, w: &[u32; 64]) -> State
+    fn rounds_0(self, k: &[u32; 64], w: &[u32; 64]) -> State
+        requires { ⌜ now k ≡ constants ⌝ }
         ensures { λ r. ⌜ r ≡ fips.rounds 8 0 (now (w .entry)) self ⌝ }
     {
-        self.round(K[0], w[0])
-            .round(K[1], w[1])
-            .round(K[2], w[2])
-            .round(K[3], w[3])
-            .round(K[4], w[4])
-            .round(K[5], w[5])
-            .round(K[6], w[6])
-            .round(K[7], w[7])
+        self.round_at(k, w, 0)
+            .round_at(k, w, 1)
+            .round_at(k, w, 2)
+            .round_at(k, w, 3)
+            .round_at(k, w, 4)
+            .round_at(k, w, 5)
+            .round_at(k, w, 6)
+            .round_at(k, w, 7)
     }
 
     // Rounds 8 to 15.
-    fn rounds_8(self, w: &[u32; 64]) -> State
+    fn rounds_8(self, k: &[u32; 64], w: &[u32; 64]) -> State
+        requires { ⌜ now k ≡ constants ⌝ }
         ensures { λ r. ⌜ r ≡ fips.rounds 8 8 (now (w .entry)) self ⌝ }
     {
-        self.round(K[8], w[8])
-            .round(K[9], w[9])
-            .round(K[10], w[10])
-            .round(K[11], w[11])
-            .round(K[12], w[12])
-            .round(K[13], w[13])
-            .round(K[14], w[14])
-            .round(K[15], w[15])
+        self.round_at(k, w, 8)
+            .round_at(k, w, 9)
+            .round_at(k, w, 10)
+            .round_at(k, w, 11)
+            .round_at(k, w, 12)
+            .round_at(k, w, 13)
+            .round_at(k, w, 14)
+            .round_at(k, w, 15)
     }
 
     // Rounds 16 to 23.
-    fn rounds_16(self, w: &[u32; 64]) -> State
+    fn rounds_16(self, k: &[u32; 64], w: &[u32; 64]) -> State
+        requires { ⌜ now k ≡ constants ⌝ }
         ensures { λ r. ⌜ r ≡ fips.rounds 8 16 (now (w .entry)) self ⌝ }
     {
-        self.round(K[16], w[16])
-            .round(K[17], w[17])
-            .round(K[18], w[18])
-            .round(K[19], w[19])
-            .round(K[20], w[20])
-            .round(K[21], w[21])
-            .round(K[22], w[22])
-            .round(K[23], w[23])
+        self.round_at(k, w, 16)
+            .round_at(k, w, 17)
+            .round_at(k, w, 18)
+            .round_at(k, w, 19)
+            .round_at(k, w, 20)
+            .round_at(k, w, 21)
+            .round_at(k, w, 22)
+            .round_at(k, w, 23)
     }
 
     // Rounds 24 to 31.
-    fn rounds_24(self, w: &[u32; 64]) -> State
+    fn rounds_24(self, k: &[u32; 64], w: &[u32; 64]) -> State
+        requires { ⌜ now k ≡ constants ⌝ }
         ensures { λ r. ⌜ r ≡ fips.rounds 8 24 (now (w .entry)) self ⌝ }
     {
-        self.round(K[24], w[24])
-            .round(K[25], w[25])
-            .round(K[26], w[26])
-            .round(K[27], w[27])
-            .round(K[28], w[28])
-            .round(K[29], w[29])
-            .round(K[30], w[30])
-            .round(K[31], w[31])
+        self.round_at(k, w, 24)
+            .round_at(k, w, 25)
+            .round_at(k, w, 26)
+            .round_at(k, w, 27)
+            .round_at(k, w, 28)
+            .round_at(k, w, 29)
+            .round_at(k, w, 30)
+            .round_at(k, w, 31)
     }
 
     // Rounds 32 to 39.
-    fn rounds_32(self, w: &[u32; 64]) -> State
+    fn rounds_32(self, k: &[u32; 64], w: &[u32; 64]) -> State
+        requires { ⌜ now k ≡ constants ⌝ }
         ensures { λ r. ⌜ r ≡ fips.rounds 8 32 (now (w .entry)) self ⌝ }
     {
-        self.round(K[32], w[32])
-            .round(K[33], w[33])
-            .round(K[34], w[34])
-            .round(K[35], w[35])
-            .round(K[36], w[36])
-            .round(K[37], w[37])
-            .round(K[38], w[38])
-            .round(K[39], w[39])
+        self.round_at(k, w, 32)
+            .round_at(k, w, 33)
+            .round_at(k, w, 34)
+            .round_at(k, w, 35)
+            .round_at(k, w, 36)
+            .round_at(k, w, 37)
+            .round_at(k, w, 38)
+            .round_at(k, w, 39)
     }
 
     // Rounds 40 to 47.
-    fn rounds_40(self, w: &[u32; 64]) -> State
+    fn rounds_40(self, k: &[u32; 64], w: &[u32; 64]) -> State
+        requires { ⌜ now k ≡ constants ⌝ }
         ensures { λ r. ⌜ r ≡ fips.rounds 8 40 (now (w .entry)) self ⌝ }
     {
-        self.round(K[40], w[40])
-            .round(K[41], w[41])
-            .round(K[42], w[42])
-            .round(K[43], w[43])
-            .round(K[44], w[44])
-            .round(K[45], w[45])
-            .round(K[46], w[46])
-            .round(K[47], w[47])
+        self.round_at(k, w, 40)
+            .round_at(k, w, 41)
+            .round_at(k, w, 42)
+            .round_at(k, w, 43)
+            .round_at(k, w, 44)
+            .round_at(k, w, 45)
+            .round_at(k, w, 46)
+            .round_at(k, w, 47)
     }
 
     // Rounds 48 to 55.
-    fn rounds_48(self, w: &[u32; 64]) -> State
+    fn rounds_48(self, k: &[u32; 64], w: &[u32; 64]) -> State
+        requires { ⌜ now k ≡ constants ⌝ }
         ensures { λ r. ⌜ r ≡ fips.rounds 8 48 (now (w .entry)) self ⌝ }
     {
-        self.round(K[48], w[48])
-            .round(K[49], w[49])
-            .round(K[50], w[50])
-            .round(K[51], w[51])
-            .round(K[52], w[52])
-            .round(K[53], w[53])
-            .round(K[54], w[54])
-            .round(K[55], w[55])
+        self.round_at(k, w, 48)
+            .round_at(k, w, 49)
+            .round_at(k, w, 50)
+            .round_at(k, w, 51)
+            .round_at(k, w, 52)
+            .round_at(k, w, 53)
+            .round_at(k, w, 54)
+            .round_at(k, w, 55)
     }
 
     // Rounds 56 to 63.
-    fn rounds_56(self, w: &[u32; 64]) -> State
+    fn rounds_56(self, k: &[u32; 64], w: &[u32; 64]) -> State
+        requires { ⌜ now k ≡ constants ⌝ }
         ensures { λ r. ⌜ r ≡ fips.rounds 8 56 (now (w .entry)) self ⌝ }
     {
-        self.round(K[56], w[56])
-            .round(K[57], w[57])
-            .round(K[58], w[58])
-            .round(K[59], w[59])
-            .round(K[60], w[60])
-            .round(K[61], w[61])
-            .round(K[62], w[62])
-            .round(K[63], w[63])
+        self.round_at(k, w, 56)
+            .round_at(k, w, 57)
+            .round_at(k, w, 58)
+            .round_at(k, w, 59)
+            .round_at(k, w, 60)
+            .round_at(k, w, 61)
+            .round_at(k, w, 62)
+            .round_at(k, w, 63)
     }
 
     // The sixty-four rounds (FIPS 180-4, 6.2.2, steps 2 and 3), written out, so that the compiler mixes
     // them with the schedule's words.
-    fn rounds(self, w: &[u32; 64]) -> State
+    fn rounds(self, k: &[u32; 64], w: &[u32; 64]) -> State
+        requires { ⌜ now k ≡ constants ⌝ }
         ensures { λ r. ⌜ r ≡ fips.rounds 64 0 (now (w .entry)) self ⌝ }
     {
-        self.rounds_0(w)
-            .rounds_8(w)
-            .rounds_16(w)
-            .rounds_24(w)
-            .rounds_32(w)
-            .rounds_40(w)
-            .rounds_48(w)
-            .rounds_56(w)
+        self.rounds_0(k, w)
+            .rounds_8(k, w)
+            .rounds_16(k, w)
+            .rounds_24(k, w)
+            .rounds_32(k, w)
+            .rounds_40(k, w)
+            .rounds_48(k, w)
+            .rounds_56(k, w)
     }
 
     // The hash value after one more block of sixteen words (FIPS 180-4, 6.2.2).
     pub fn absorb(self, block: [u32; 16]) -> State
         ensures { λ r. ⌜ r ≡ fips.compress self block ⌝ }
     {
-        let w = schedule::schedule(block);
-        self.rounds(&w).plus(self)
+        let k = K;
+        let w = sha256_schedule::schedule(block);
+        self.rounds(&k, &w).plus(self)
     }
 
     // The hash value after every whole block of a slice (FIPS 180-4, 6.2).
@@ -397,20 +341,4 @@ fn bytes_of(w: [u32; 8]) -> [u8; 32]
         i += 1;
     }
     bytes
-}
-
-// The digest service (document 01, "Digest and signature"): 0 and the digest, or 16 for a message of
-// more than 16,777,216 bytes, with the buffer as it was.
-pub fn digest(message: &[u8], out: &mut [u8; 32]) -> u32
-    ensures number { λ r. ⌜ r ≡ digestNumber (now (message .entry)) ⌝ }
-    ensures bytes { λ _. ⌜ now (out .exit) ≡ digestAfter (now (message .entry)) (now (out .entry)) ⌝ }
-{
-    if MESSAGE_MAX < message.len() {
-        return 16;
-    }
-    let whole = message.len() / 64 * 64;
-    let s = State::new().absorb_all(message);
-    let end = s.finish(&message[whole..], message.len());
-    *out = end.bytes();
-    0
 }

@@ -13,7 +13,7 @@ fn print_digest(digits: &[u8]) {
     let mut message = io::buffer();
     let n = vectors::decode(digits, &mut message);
     let mut digest = [0u8; 32];
-    if sha256::digest(&message[..n], &mut digest) == 0 {
+    if digest::digest(&message[..n], &mut digest) == 0 {
         print_line(&digest);
     } else {
         io::write_all(STDOUT_FILENO, b"no digest\n");

@@ -6,7 +6,7 @@ use mathlib.Core.Logic.{⊎-elim}
 use native.Mathlib.Omega.{arith}
 use borrow.Author.Needs.{needs}
 use lib.ListN.{length, take, length-set}
-use Rattle.sha256.specs.Constants.{constants}
+use Rattle.sha256_tables.specs.Constants.{constants}
 use Rattle.sha256.specs.Sha256.{extend, schedule, rounds}
 use Rattle.lanes.specs.Lane.{Lane, row, windowAt}
 use Rattle.lanes.proofs.Turns.{first-words, round-turn, word-turn, window-read}

@@ -10,7 +10,7 @@ use Rattle.lm_ots.proofs.chain.step_block.Tie as tie
 
 returns : tie.Need-returns
 returns c =
-    let start = c .before .before .before .before .before .before .before .before .before .before .before .before .before .before .before .before in
+    let start = c .before .before .before .before .before .before .before .before .before in
     let l = start .args .leaf in
     let t = start .args .t in
     let h0 : l .i0 < 2 ^ 32 = search needs in
@@ -26,7 +26,16 @@ returns c =
     let tf : t .f < 2 ^ 32 = search needs in
     let tg : t .g < 2 ^ 32 = search needs in
     let th : t .h < 2 ^ 32 = omega (arith, start .good) in
-    sym (step-words l (start .args .i) (start .args .j) t h0 h1 h2 h3 hq (start .pre .0) (start .pre .1) ta tb tc td te tf tg th)
+    simp (
+      c .before .across7 .ensures,
+      c .before .before .across6 .ensures,
+      c .before .before .before .across5 .ensures,
+      c .before .before .before .before .across4 .ensures,
+      c .before .before .before .before .before .across3 .ensures,
+      c .before .before .before .before .before .before .across2 .ensures,
+      c .before .before .before .before .before .before .before .across .ensures,
+    )
+    (sym (step-words l (start .args .i) (start .args .j) t h0 h1 h2 h3 hq (start .pre .0) (start .pre .1) ta tb tc td te tf tg th))
 
 pub step-block-spec : {M : Type 1} → statement M
 step-block-spec =
@@ -36,20 +45,13 @@ step-block-spec =
     (λ c. search needs)
     (λ c. search needs)
     (λ c. search needs)
-    (λ c. search needs)
-    (λ c. search needs)
-    (λ c. search needs)
-    (λ c. search needs)
-    (λ c. search needs)
-    (λ c. search needs)
-    (λ c. search needs)
-    (λ c. search needs)
-    (λ c. search needs)
-    (λ c. search needs)
-    (λ c. search needs)
-    (λ c. search needs)
-    (λ c. search needs)
-    (λ c. search needs)
+    (λ c κs. search needs)
+    (λ c κs. search needs)
+    (λ c κs. search needs)
+    (λ c κs. search needs)
+    (λ c κs. search needs)
+    (λ c κs. search needs)
+    (λ c κs. search needs)
     (λ c. search needs)
     (λ c. search needs)
     returns)

@@ -1,0 +1,26 @@
+-- Each call's promise, put together.
+-- Assumes nothing.
+use borrow.Author.Needs.{needs}
+use Rattle.sha256_schedule.proofs.next.Statement.{statement}
+use Rattle.sha256_schedule.proofs.next.Tie as tie
+
+returns : tie.Need-returns
+returns c =
+    simp (
+      c .add3 .ensures,
+      c .before .add2 .ensures,
+      c .before .before .small-sigma0 .ensures,
+      c .before .before .before .add .ensures,
+      c .before .before .before .before .small-sigma1 .ensures,
+    )
+
+pub next-spec : {M : Type 1} → statement M
+next-spec =
+    tie.close
+    (tie.spec
+    (λ c κs. search needs)
+    (λ c κs. search needs)
+    (λ c κs. search needs)
+    (λ c κs. search needs)
+    (λ c κs. search needs)
+    returns)
