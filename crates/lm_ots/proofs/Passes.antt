@@ -15,12 +15,6 @@ use Rattle.lm_hash.specs.Tagged.{tagged}
 use Rattle.lm_ots.specs.Candidate.{chain}
 use Rattle.lm_ots.specs.Values.{changed, stepped, advanced, Next}
 
--- one number more
-pub one-more : (P : ℕ → Type 0) (i : ℕ) → ((k : ℕ) → k < i → P k) → P i → (k : ℕ) → k < i + 1 → P k
-one-more P i h p k l =
-    let le : k ≤ i = omega arith in
-    ⊎-elim (λ e. rw e p) (λ m. h k m) (eq-or-lt-of-le le)
-
 pub changed-in : (i : ℕ) (z : List ℕ) {f g : ℕ → List ℕ} → ((k : ℕ) → f k ≡ g k) → (k : ℕ) → changed i z f k ≡ changed i z g k
 unfolding changed
 changed-in i z e k = ap (cond (eqb k i) z) (e k)

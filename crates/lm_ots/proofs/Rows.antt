@@ -9,12 +9,12 @@ use lib.Dec.{lit≤}
 use lib.ListN.{length, take}
 use lib.Seq.{sets}
 use Rattle.words.proofs.Laws.{take-sets}
-use Rattle.lm_ots.specs.declared.Parameters.{Parameters}
-use Rattle.lm_ots.specs.Parameters.{row, oneTime, Listed}
+use Rattle.lm_digits.specs.declared.Parameters.{Parameters}
+use Rattle.lm_digits.specs.Parameters.{row, oneTime, Listed}
 use Rattle.lm_ots.specs.Candidate.{end, ends}
 use Rattle.lm_ots.specs.Values.{valueAt}
-use Rattle.lm_ots.proofs.Widths.{width-le, pow-le, shifted-one}
-use Rattle.lm_ots.proofs.Figures.{each-known, known-width, known-follows, shift-lt, chain-digit}
+use Rattle.lm_digits.proofs.Widths.{width-le, pow-le, shifted-one}
+use Rattle.lm_digits.proofs.Figures.{each-known, known-width, known-follows, shift-lt, chain-digit}
 
 module _ (o : Parameters) (l : Listed o) where
   pub width : o .bits * (8 / o .bits) ≡ 8

@@ -4,8 +4,8 @@ use Prim.Native.Nat.{ℕ, zero, suc, _+_, _-_, _*_, _^_}
 use lib.ListN.{take, drop}
 use Rattle.words.specs.BigEndian.{be}
 use Rattle.lm_hash.specs.Tagged.{tagged}
-use Rattle.lm_ots.specs.declared.Parameters.{Parameters}
-use Rattle.lm_ots.specs.Digits.{coef, withChecksum}
+use Rattle.lm_digits.specs.declared.Parameters.{Parameters}
+use Rattle.lm_digits.specs.Digits.{coef, withChecksum}
 
 -- 4.1, 5.1: the constants that set hashes of different uses apart
 unfoldable pub D-PBLC : ℕ

@@ -1,4 +1,2 @@
-pub mod Parameters
-pub mod Digits
 pub mod Candidate
 pub mod Values

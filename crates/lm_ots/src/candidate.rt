@@ -6,11 +6,11 @@ ghost use lib.ListN.{length, take, drop};
 ghost use Rattle.sha256.specs.Service.{limit};
 ghost use Rattle.sha256.specs.Sha256.{bytesOf};
 ghost use Rattle.lm_hash.specs.Identifier.{identifier};
-ghost use Rattle.lm_ots.specs.Parameters.{Listed};
+ghost use Rattle.lm_digits.specs.Parameters.{Listed};
 ghost use Rattle.lm_ots.specs.Candidate as rfc;
-use super::Parameters;
-use super::digits;
 use super::walk;
+use lm_digits::Parameters;
+use lm_digits::digits;
 use lm_hash::Leaf;
 use sha256::State;
 

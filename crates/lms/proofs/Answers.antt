@@ -10,9 +10,9 @@ use lib.Dec.{eqb, lit≤}
 use lib.ListN.{length, drop}
 use Rattle.words.specs.BigEndian.{numberAt, same}
 use Rattle.sha256.specs.Service.{limit, tooLong}
-use Rattle.lm_ots.specs.declared.Parameters.{Parameters}
-use Rattle.lm_ots.specs.declared.OneTime.the-variants.{Known, Unknown as NoType}
-use Rattle.lm_ots.specs.Parameters.{oneTime}
+use Rattle.lm_digits.specs.declared.Parameters.{Parameters}
+use Rattle.lm_digits.specs.declared.OneTime.the-variants.{Known, Unknown as NoType}
+use Rattle.lm_digits.specs.Parameters.{oneTime}
 use Rattle.lms.specs.declared.Height.{Height}
 use Rattle.lms.specs.declared.Height.the-variants.{Levels, Unknown}
 use Rattle.lms.specs.declared.Answer.the-variants.{Good, Bad, Long}

@@ -2,8 +2,8 @@
 -- Assumes nothing.
 use mathlib.Core.Path.{_≡_, refl}
 use Prim.Native.Nat.{ℕ, _+_, _*_}
-use Rattle.lm_ots.specs.Parameters.{row, messageDigits}
-use Rattle.lm_ots.specs.Digits.{coef, sum, checksum}
+use Rattle.lm_digits.specs.Parameters.{row, messageDigits}
+use Rattle.lm_digits.specs.Digits.{coef, sum, checksum}
 use Rattle.lms.specs.Check.{oneTimeBytes, pathAt, signatureLength}
 use Rattle.lms.specs.Figures.{figure, AllHold, signatureFigures}
 

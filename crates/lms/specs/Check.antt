@@ -7,10 +7,10 @@ use lib.Dec.{eqb, ltb}
 use lib.ListN.{length, take, drop}
 use Rattle.words.specs.BigEndian.{numberAt, same}
 use Rattle.sha256.specs.Service.{tooLong}
-use Rattle.lm_ots.specs.declared.Parameters.{Parameters}
-use Rattle.lm_ots.specs.declared.OneTime.{OneTime}
-use Rattle.lm_ots.specs.declared.OneTime.the-variants.{Known, Unknown as NoType}
-use Rattle.lm_ots.specs.Parameters.{oneTime}
+use Rattle.lm_digits.specs.declared.Parameters.{Parameters}
+use Rattle.lm_digits.specs.declared.OneTime.{OneTime}
+use Rattle.lm_digits.specs.declared.OneTime.the-variants.{Known, Unknown as NoType}
+use Rattle.lm_digits.specs.Parameters.{oneTime}
 use Rattle.lm_ots.specs.Candidate.{candidate}
 use Rattle.lms.specs.declared.Height.{Height}
 use Rattle.lms.specs.declared.Height.the-variants.{Levels, Unknown}

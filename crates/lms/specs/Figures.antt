@@ -4,8 +4,8 @@ use mathlib.Core.Path.{_≡_}
 use mathlib.Core.List.{List, [], _∷_}
 use Prim.Native.Nat.{ℕ}
 use lib.ListN.{replicate}
-use Rattle.lm_ots.specs.Parameters.{row}
-use Rattle.lm_ots.specs.Digits.{checksum}
+use Rattle.lm_digits.specs.Parameters.{row}
+use Rattle.lm_digits.specs.Digits.{checksum}
 use Rattle.lms.specs.Check.{signatureLength}
 
 pub record Figure : Type 0 where

@@ -5,14 +5,14 @@ ghost use lib.ListN.{length, drop};
 ghost use Rattle.words.specs.BigEndian.{numberAt, same};
 ghost use Rattle.sha256.specs.Service.{limit};
 ghost use Rattle.sha256.specs.Sha256.{bytesOf};
-ghost use Rattle.lm_ots.specs.Parameters.{Listed};
+ghost use Rattle.lm_digits.specs.Parameters.{Listed};
 ghost use Rattle.lms.specs.Tree.{height};
 ghost use Rattle.lms.specs.Check as rfc;
 
 mod tree;
 
-use lm_ots::OneTime;
-use lm_ots::Parameters;
+use lm_digits::OneTime;
+use lm_digits::Parameters;
 use sha256::State;
 
 // The bytes of a key (RFC 8554, 5.3).
@@ -98,7 +98,7 @@ pub fn check(key: &[u8], message: &[u8], signature: &[u8]) -> Answer
     if key.len() != KEY_SIZE {
         return Answer::Bad;
     }
-    let OneTime::Known(o) = lm_ots::one_time(words::u32_at(key, 4)) else {
+    let OneTime::Known(o) = lm_digits::one_time(words::u32_at(key, 4)) else {
         return Answer::Bad;
     };
     let Height::Levels(h) = height_of(words::u32_at(key, 0)) else {

@@ -4,7 +4,7 @@ use mathlib.Core.Path.{refl}
 use mathlib.Core.List.{List, [], _∷_, _++_, flatMap}
 use Rattle.words.specs.BigEndian.{number, be, numberAt, same}
 use Rattle.refusal.specs.Checks.{all, every, check, refusal}
-use Rattle.lm_ots.specs.Parameters.{row}
+use Rattle.lm_digits.specs.Parameters.{row}
 use Rattle.lms.specs.Tree.{height}
 use Rattle.lms.specs.Check.{signatureLength, pathAt, oneTimeBytes}
 use Rattle.lms.specs.Figures.{Figure, figure, AllHold, signatureFigures}

@@ -10,7 +10,7 @@ use mathlib.Core.Logic.{⊎-elim}
 use lib.Dec.{eqb, leb, lit<, lit≤}
 use lib.ListN.{length}
 use Rattle.refusal.proofs.Laws.{look, cond-true, all-cons, accepted}
-use Rattle.lm_ots.specs.Parameters.{row}
+use Rattle.lm_digits.specs.Parameters.{row}
 use Rattle.lms.specs.declared.Height.{Height}
 use Rattle.lms.specs.declared.Height.the-variants.{Levels}
 use Rattle.lms.specs.Tree.{height}

@@ -6,7 +6,7 @@ use lib.Dec.{eqb, leb}
 use lib.ListN.{length, take, drop}
 use Rattle.words.specs.BigEndian.{numberAt, same}
 use Rattle.refusal.specs.Checks.{all, check, refusal}
-use Rattle.lm_ots.specs.Parameters.{row}
+use Rattle.lm_digits.specs.Parameters.{row}
 use Rattle.lms.specs.declared.Height.{Height}
 use Rattle.lms.specs.declared.Height.the-variants.{Levels, Unknown}
 use Rattle.lms.specs.Tree.{height}

@@ -2,7 +2,7 @@
 -- Assumes nothing.
 use mathlib.Core.Path.{sym, ap, _∙_}
 use Rattle.words.specs.BigEndian.{numberAt}
-use Rattle.lm_ots.specs.Parameters.{oneTime}
+use Rattle.lm_digits.specs.Parameters.{oneTime}
 use Rattle.lms.specs.Tree.{height}
 use Rattle.lms.proofs.Answers.{long-message, wrong-key, no-one-time, no-height, height-le, verified, not-verified}
 use borrow.Author.Needs.{needs}

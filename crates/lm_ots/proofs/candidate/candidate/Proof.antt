@@ -9,7 +9,7 @@ use lib.ListN.{length, take, drop, length-take, length-drop}
 use Rattle.words.proofs.Laws.{part-end}
 use Rattle.lm_hash.specs.Identifier.{identifier}
 use Rattle.lm_hash.specs.Tagged.{tagged}
-use Rattle.lm_ots.specs.Digits.{withChecksum}
+use Rattle.lm_digits.specs.Digits.{withChecksum}
 use Rattle.lm_ots.specs.Candidate.{D-MESG, D-PBLC, ends, candidate}
 use Rattle.lm_ots.proofs.Rows.{width, few, shift-below}
 use borrow.Author.Needs.{needs}

@@ -7,12 +7,12 @@ use native.Mathlib.Numerals.{add-one}
 use native.Mathlib.Omega.{arith}
 use borrow.Author.Needs.{needs}
 use lib.Pow.{pow-pos}
-use Rattle.lm_ots.specs.Parameters.{messageDigits}
-use Rattle.lm_ots.specs.Digits.{sum}
-use Rattle.lm_ots.proofs.Widths.{width-pos, width-le, pow-le, shifted-one, digit-inside, message-fits}
-use Rattle.lm_ots.proofs.Figures.{sum-small}
-use Rattle.lm_ots.proofs.digits.digit_sum.Statement.{statement}
-use Rattle.lm_ots.proofs.digits.digit_sum.Tie as tie
+use Rattle.lm_digits.specs.Parameters.{messageDigits}
+use Rattle.lm_digits.specs.Digits.{sum}
+use Rattle.lm_digits.proofs.Widths.{width-pos, width-le, pow-le, shifted-one, digit-inside, message-fits}
+use Rattle.lm_digits.proofs.Figures.{sum-small}
+use Rattle.lm_digits.proofs.digits.digit_sum.Statement.{statement}
+use Rattle.lm_digits.proofs.digits.digit_sum.Tie as tie
 
 abbrev Inv-loop : tie.InvT-loop
 Inv-loop s bits largest count total₀ i₀ total i = (i ≤ count) × (total ≡ sum bits s i)

@@ -2,8 +2,8 @@
 ghost use mathlib.Core.Path.{_≡_};
 ghost use Prim.Native.Nat.{ℕ, _*_, _/_, _^_, _≤_, _<_};
 ghost use lib.ListN.{length, getD};
-ghost use Rattle.lm_ots.specs.Parameters.{messageDigits};
-ghost use Rattle.lm_ots.specs.Digits.{coef, sum, withChecksum};
+ghost use Rattle.lm_digits.specs.Parameters.{messageDigits};
+ghost use Rattle.lm_digits.specs.Digits.{coef, sum, withChecksum};
 use super::Parameters;
 
 // Digit i of a byte string (RFC 8554, 3.1.3): 8 / bits digits stand in a byte, the first in its

@@ -1,9 +1,9 @@
 -- Each arm's number picks the definition's row.
 -- Assumes nothing.
 use borrow.Author.Tests.{ne-eqb}
-use Rattle.lm_ots.specs.Parameters.{row, oneTime}
-use Rattle.lm_ots.proofs.one_time.Statement.{statement}
-use Rattle.lm_ots.proofs.one_time.Tie as tie
+use Rattle.lm_digits.specs.Parameters.{row, oneTime}
+use Rattle.lm_digits.proofs.one_time.Statement.{statement}
+use Rattle.lm_digits.proofs.one_time.Tie as tie
 
 returns : tie.Need-returns
 unfolding oneTime row

@@ -9,12 +9,12 @@ use native.Mathlib.Nat.{le-trans, lt-of-lt-of-le, le-of-suc-le-suc, lt-of-not-le
 use native.Mathlib.Omega.{arith}
 use lib.Dec.{eqb, lit≤}
 use lib.Pow.{pow-pos, pow-mono, shl-lt}
-use Rattle.lm_ots.specs.declared.Parameters.{Parameters}
-use Rattle.lm_ots.specs.declared.OneTime.{OneTime}
-use Rattle.lm_ots.specs.declared.OneTime.the-variants.{Known, Unknown}
-use Rattle.lm_ots.specs.Parameters.{row, oneTime, messageDigits, Follows}
-use Rattle.lm_ots.specs.Digits.{coef, sum, checksum}
-use Rattle.lm_ots.proofs.Widths.{width-pos, pow-le, digit-inside, message-fits}
+use Rattle.lm_digits.specs.declared.Parameters.{Parameters}
+use Rattle.lm_digits.specs.declared.OneTime.{OneTime}
+use Rattle.lm_digits.specs.declared.OneTime.the-variants.{Known, Unknown}
+use Rattle.lm_digits.specs.Parameters.{row, oneTime, messageDigits, Follows}
+use Rattle.lm_digits.specs.Digits.{coef, sum, checksum}
+use Rattle.lm_digits.proofs.Widths.{width-pos, pow-le, digit-inside, message-fits}
 
 -- ---- digits and their sum
 

@@ -5,10 +5,10 @@ use mathlib.Core.Path.{_≡_, refl, _∙_}
 use native.Mathlib.Omega.{arith}
 use lib.ListN.{length, getD, set, length-set}
 use lib.Seq.{getD-set-same, getD-set-other}
-use Rattle.lm_ots.specs.Digits.{coef}
-use Rattle.lm_ots.proofs.Passes.{one-more}
-use Rattle.lm_ots.proofs.digits.starts.Statement.{statement}
-use Rattle.lm_ots.proofs.digits.starts.Tie as tie
+use Rattle.lm_digits.specs.Digits.{coef}
+use Rattle.lm_digits.proofs.Counting.{one-more}
+use Rattle.lm_digits.proofs.digits.starts.Statement.{statement}
+use Rattle.lm_digits.proofs.digits.starts.Tie as tie
 
 abbrev Inv-loop : tie.InvT-loop
 Inv-loop s bits count d₀ i₀ d i = (i ≤ count) × (length d ≡ 265) × ((k : ℕ) → k < i → getD d k 0 ≡ coef bits s k)

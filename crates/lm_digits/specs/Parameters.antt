@@ -5,9 +5,9 @@ use mathlib.Core.Bool.{cond}
 use mathlib.Core.List.{List, [], _∷_}
 use Prim.Native.Nat.{ℕ, zero, suc, _+_, _-_, _*_, _/_, _^_, _≤_}
 use lib.Dec.{eqb}
-use Rattle.lm_ots.specs.declared.Parameters.{Parameters}
-use Rattle.lm_ots.specs.declared.OneTime.{OneTime}
-use Rattle.lm_ots.specs.declared.OneTime.the-variants.{Known, Unknown}
+use Rattle.lm_digits.specs.declared.Parameters.{Parameters}
+use Rattle.lm_digits.specs.declared.OneTime.{OneTime}
+use Rattle.lm_digits.specs.declared.OneTime.the-variants.{Known, Unknown}
 
 -- digit bits w, chains p, checksum shift ls
 unfoldable pub row : ℕ → ℕ → ℕ → Parameters

@@ -6,7 +6,7 @@ use native.Mathlib.Nat.{mul-comm, mul-suc, mul-le-mul-left, mul-lt-mul-of-pos-ri
 use native.Mathlib.Omega.{arith}
 use lib.Dec.{lit<}
 use lib.Pow.{pow-mono}
-use Rattle.lm_ots.specs.Parameters.{messageDigits}
+use Rattle.lm_digits.specs.Parameters.{messageDigits}
 
 factor-pos : (a b : ℕ) → a * b ≡ 8 → 0 < a
 factor-pos zero b e = omega arith

@@ -5,11 +5,11 @@ use native.Mathlib.Nat.{mod-lt, div-le-self}
 use native.Mathlib.Omega.{arith}
 use borrow.Author.Needs.{needs}
 use lib.Pow.{pow-pos}
-use Rattle.lm_ots.specs.Digits.{coef}
-use Rattle.lm_ots.proofs.Widths.{width-pos, each-pos, width-le, shifted-one, digit-ends, digit-byte}
-use Rattle.lm_ots.proofs.Figures.{digit-lt}
-use Rattle.lm_ots.proofs.digits.digit.Statement.{statement}
-use Rattle.lm_ots.proofs.digits.digit.Tie as tie
+use Rattle.lm_digits.specs.Digits.{coef}
+use Rattle.lm_digits.proofs.Widths.{width-pos, each-pos, width-le, shifted-one, digit-ends, digit-byte}
+use Rattle.lm_digits.proofs.Figures.{digit-lt}
+use Rattle.lm_digits.proofs.digits.digit.Statement.{statement}
+use Rattle.lm_digits.proofs.digits.digit.Tie as tie
 
 div-each : tie.Need-div-each
 div-each c = width-pos _ (c .before .pre .0)

@@ -3,8 +3,8 @@ use mathlib.Core.List.{List, _++_}
 use Prim.Native.Nat.{ℕ, zero, suc, _+_, _-_, _*_, _/_, _%_, _^_}
 use lib.ListN.{getD}
 use Rattle.words.specs.BigEndian.{be}
-use Rattle.lm_ots.specs.declared.Parameters.{Parameters}
-use Rattle.lm_ots.specs.Parameters.{messageDigits}
+use Rattle.lm_digits.specs.declared.Parameters.{Parameters}
+use Rattle.lm_digits.specs.Parameters.{messageDigits}
 
 -- 3.1.3: coef(S, i, w); the AND with 2^w - 1 is the rest modulo 2^w
 unfoldable pub coef : ℕ → List ℕ → ℕ → ℕ

@@ -10,9 +10,9 @@ use lib.ListN.{length, getD, take, length-set, drop-of-length-le}
 use lib.Seq.{take-suc, take-suc-set, take-all, sets, sets-eq}
 use Rattle.words.specs.BigEndian.{be}
 use Rattle.words.proofs.Laws.{length-be}
-use Rattle.lm_ots.specs.Digits.{checksum, withChecksum}
-use Rattle.lm_ots.proofs.digits.with_checksum.Statement.{statement}
-use Rattle.lm_ots.proofs.digits.with_checksum.Tie as tie
+use Rattle.lm_digits.specs.Digits.{checksum, withChecksum}
+use Rattle.lm_digits.proofs.digits.with_checksum.Statement.{statement}
+use Rattle.lm_digits.proofs.digits.with_checksum.Tie as tie
 
 -- the two bytes of a number, from its lowest 32 bits
 lowest-two : (n : ℕ) → be 2 (n % 4294967296 % 65536) ≡ be 2 n
