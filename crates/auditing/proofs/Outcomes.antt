@@ -65,12 +65,3 @@ module _ (roster first second : List ℕ) where
       go true true false = refl
       go true false z = refl
       go false y z = refl
-
-  pub accepted-answer : outcome roster first second ≡ Accepted
-      → answer roster first second ≡ record { number = 0; side = 0; findings = findings (signatureSize roster) (viewOf roster first) (viewOf roster second) }
-  unfolding answerOf
-  accepted-answer e = rw e at answer-of
-
-  pub refused-answer : {number side : ℕ} → outcome roster first second ≡ Refused number side → answer roster first second ≡ refused number side
-  unfolding answerOf
-  refused-answer e = rw e at answer-of

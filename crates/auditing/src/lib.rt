@@ -3,7 +3,10 @@ ghost use mathlib.Core.Path.{_≡_};
 ghost use mathlib.Core.List.{_++_};
 ghost use Prim.Native.Nat.{_≤_};
 ghost use lib.ListN.{length, drop};
-ghost use Rattle.report.specs.Report.{answer, reportSize, reportBytes, auditNumber, reportAfter};
+ghost use Rattle.roster.specs.Roster.{signatureSize};
+ghost use Rattle.submission.specs.Validate.{viewOf};
+ghost use Rattle.forensics.specs.Findings.{findings};
+ghost use Rattle.report.specs.Report.{reportSize, reportBytes, auditNumber, reportAfter};
 ghost use Rattle.auditing.specs.Outcomes as paper;
 use validation::checks;
 
@@ -35,11 +38,14 @@ pub fn validate(roster: &[u8], first: &[u8], second: &[u8]) -> Outcome
     Outcome::Accepted
 }
 
-// Writes the report to a buffer that is long enough, and gives the number.
+// Writes the report of the outcome to a buffer that is long enough, and gives the number.
 fn write(roster: &[u8], first: &[u8], second: &[u8], report: &mut [u8]) -> u32
     requires { ⌜ reportSize ≤ length (now report) ⌝ }
-    ensures number { λ r. ⌜ r ≡ answer (now (roster .entry)) (now (first .entry)) (now (second .entry)) .number ⌝ }
-    ensures bytes { λ _. ⌜ now (report .exit) ≡ reportBytes (answer (now (roster .entry)) (now (first .entry)) (now (second .entry))) ++ drop reportSize (now (report .entry)) ⌝ }
+    ensures number { λ r. ⌜ r ≡ paper.answerOf (paper.outcome (now (roster .entry)) (now (first .entry)) (now (second .entry)))
+        (findings (signatureSize (now (roster .entry))) (viewOf (now (roster .entry)) (now (first .entry))) (viewOf (now (roster .entry)) (now (second .entry)))) .number ⌝ }
+    ensures bytes { λ _. ⌜ now (report .exit) ≡ reportBytes (paper.answerOf (paper.outcome (now (roster .entry)) (now (first .entry)) (now (second .entry)))
+        (findings (signatureSize (now (roster .entry))) (viewOf (now (roster .entry)) (now (first .entry))) (viewOf (now (roster .entry)) (now (second .entry)))))
+        ++ drop reportSize (now (report .entry)) ⌝ }
 {
     let Outcome::Refused(number, side) = validate(roster, first, second) else {
         let found = findings::find(roster, first, second);

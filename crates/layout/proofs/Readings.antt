@@ -1,7 +1,8 @@
 -- What the readers of certificates give: a certificate that ends by the end is read, and another refused; and what an answer says. So many
 -- certificates: what is left of them ends where all do.
 -- Assumes nothing.
-use mathlib.Core.Path.{_≡_, ap, _∙_}
+use mathlib.Core.Path.{_≡_, refl, ap, _∙_}
+use mathlib.Core.Bool.{Bool, true, false, cond}
 use mathlib.Core.List.{List}
 use mathlib.Core.Logic.{⊎-elim}
 use Prim.Native.Nat.{ℕ, suc, _+_, _-_, _≤_, _<_}
@@ -9,14 +10,18 @@ use native.Mathlib.Omega.{arith}
 use borrow.Author.Tests.{leb-true, leb-false, le-leb, lt-leb}
 use lib.Dec.{leb}
 use Rattle.words.specs.BigEndian.{numberAt}
+use Rattle.refusal.specs.Checks.{check, refusal}
 use Rattle.refusal.proofs.Laws.{look}
 use Rattle.layout.specs.declared.reader.Certificate.{Certificate}
+use Rattle.layout.specs.declared.reader.Reading.{Reading}
 use Rattle.layout.specs.declared.reader.Reading.the-variants.{Read, Refused}
+use Rattle.layout.specs.declared.reader.Place.{Place}
 use Rattle.layout.specs.declared.reader.Place.the-variants.{At, Refused as Beyond}
 use Rattle.layout.specs.declared.reader.Commit.{Commit}
+use Rattle.layout.specs.declared.reader.CommitReading.{CommitReading}
 use Rattle.layout.specs.declared.reader.CommitReading.the-variants.{Read as ReadCommit, Refused as NoCommit}
 use Rattle.submission.specs.Reading.{ballotSize, ballotAt, signersAt, certificateEnd, certificatesEnd, commitEnd}
-use Rattle.layout.specs.Reader.{numbersAt, commitNumbersAt, reading, placeAfter, commitReading}
+use Rattle.layout.specs.Reader.{numbersAt, commitNumbersAt, readingNumber, placeNumber, commitReadingNumber, endNumber, reading, placeAfter, commitReading}
 use Rattle.layout.proofs.Inside.{certificates-from}
 
 -- the numbers of a leader certificate, each read at its place
@@ -36,6 +41,35 @@ numbers-read s at candidate term last index signers =
       «last_index» = (index ∙ ap (numberAt 4 s) tenth) k;
       signers = signers k;
     }
+
+-- ---- the number of an answer
+
+module _ (S : ℕ) (s : List ℕ) where
+  pub numbered : (at end : ℕ) {r : Reading} → r ≡ reading S s at end → (r ≡ reading S s at end) × (readingNumber r ≡ endNumber (certificateEnd 4 S s at) end)
+  unfolding reading readingNumber endNumber refusal check
+  numbered at end e = (e, ap readingNumber e ∙ go (leb (certificateEnd 4 S s at) end))
+    where
+      go : (b : Bool) → readingNumber (cond b (Read (numbersAt s at) (certificateEnd 4 S s at)) Refused) ≡ cond b 0 9
+      go true = refl
+      go false = refl
+
+  pub placed : (count at end : ℕ) {r : Place} → r ≡ placeAfter S s count at end
+      → (r ≡ placeAfter S s count at end) × (placeNumber r ≡ endNumber (certificatesEnd 4 S s count at) end)
+  unfolding placeAfter placeNumber endNumber refusal check
+  placed count at end e = (e, ap placeNumber e ∙ go (leb (certificatesEnd 4 S s count at) end))
+    where
+      go : (b : Bool) → placeNumber (cond b (At (certificatesEnd 4 S s count at)) Beyond) ≡ cond b 0 9
+      go true = refl
+      go false = refl
+
+  pub commit-numbered : (at end : ℕ) {r : CommitReading} → r ≡ commitReading S s at end
+      → (r ≡ commitReading S s at end) × (commitReadingNumber r ≡ endNumber (commitEnd S s at) end)
+  unfolding commitReading commitReadingNumber endNumber refusal check
+  commit-numbered at end e = (e, ap commitReadingNumber e ∙ go (leb (commitEnd S s at) end))
+    where
+      go : (b : Bool) → commitReadingNumber (cond b (ReadCommit (commitNumbersAt s at) (commitEnd S s at)) NoCommit) ≡ cond b 0 9
+      go true = refl
+      go false = refl
 
 module _ (S : ℕ) (s : List ℕ) (at end : ℕ) where
   -- ---- a leader certificate

@@ -15,6 +15,7 @@ use Rattle.layout.specs.declared.reader.CommitPart.{CommitPart}
 use Rattle.layout.specs.declared.reader.CommitPart.the-variants.{Found, Absent}
 use Rattle.layout.specs.declared.reader.CommitReading.{CommitReading}
 use Rattle.layout.specs.declared.reader.CommitReading.the-variants.{Read as ReadCommit, Refused as NoCommit}
+use Rattle.refusal.specs.Checks.{check, refusal}
 use Rattle.submission.specs.Trailer.{trailerSize, trailerAt, recordCount, leaderCount, distance}
 use Rattle.submission.specs.Reading.{ballotSize, ballotAt, signersAt, certificateEnd, certificatesEnd, commitFrom, commitAt, commitEnd, certificates}
 use Rattle.submission.specs.Validate.{submissionMost, recordMost, leaderMost}
@@ -52,6 +53,24 @@ numbersAt s at =
 
 unfoldable pub commitNumbersAt : List ℕ → ℕ → Commit
 commitNumbersAt s at = let c = commitAt s at in record { index = c .index; signers = c .signers }
+
+-- ---- document 01's number of each answer: 0 for what was read, 9 for a refusal
+
+unfoldable pub readingNumber : Reading → ℕ
+readingNumber (Read c next) = 0
+readingNumber Refused = 9
+
+unfoldable pub placeNumber : Place → ℕ
+placeNumber (At place) = 0
+placeNumber Beyond = 9
+
+unfoldable pub commitReadingNumber : CommitReading → ℕ
+commitReadingNumber (ReadCommit c next) = 0
+commitReadingNumber NoCommit = 9
+
+-- 9: what ends at a place ends by an end
+unfoldable pub endNumber : ℕ → ℕ → ℕ
+endNumber place end = refusal (check 9 (leb place end) ∷ [])
 
 module _ (S : ℕ) (s : List ℕ) where
   -- the leader certificate at a place

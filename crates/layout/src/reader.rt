@@ -4,7 +4,7 @@ ghost use mathlib.Core.Path.{_≡_};
 ghost use Prim.Native.Nat.{_+_, _*_, _≤_};
 ghost use lib.Count.{ones};
 ghost use lib.ListN.{length};
-ghost use Rattle.submission.specs.Reading.{certificateEnd};
+ghost use Rattle.submission.specs.Reading.{certificateEnd, certificatesEnd, commitEnd};
 ghost use Rattle.submission.specs.Validate.{submissionMost};
 ghost use Rattle.layout.specs.Reader as paper;
 
@@ -75,7 +75,7 @@ pub fn certificate_end(s: &[u8], at: usize, size: usize) -> usize
 // The leader certificate at a place.
 pub fn read(s: &[u8], at: usize, end: usize, size: usize) -> Reading
     requires { ⌜ (at ≤ end) × (end ≤ length (now s)) × (length (now s) ≤ submissionMost) × (size ≤ paper.signatureMost) ⌝ }
-    ensures { λ r. ⌜ r ≡ paper.reading size (now (s .entry)) at end ⌝ }
+    ensures { λ r. ⌜ (r ≡ paper.reading size (now (s .entry)) at end) × (paper.readingNumber r ≡ paper.endNumber (certificateEnd 4 size (now (s .entry)) at) end) ⌝ }
 {
     if end < at + BALLOT_SIZE + SIGNERS_SIZE {
         return Reading::Refused;
@@ -105,7 +105,8 @@ pub fn numbers_at(s: &[u8], at: usize) -> Certificate
 // The place after so many leader certificates from a place on.
 pub fn place_after(s: &[u8], count: usize, from: usize, end: usize, size: usize) -> Place
     requires { ⌜ (from ≤ end) × (end ≤ length (now s)) × (length (now s) ≤ submissionMost) × (size ≤ paper.signatureMost) ⌝ }
-    ensures { λ r. ⌜ r ≡ paper.placeAfter size (now (s .entry)) count from end ⌝ }
+    ensures { λ r. ⌜ (r ≡ paper.placeAfter size (now (s .entry)) count from end)
+        × (paper.placeNumber r ≡ paper.endNumber (certificatesEnd 4 size (now (s .entry)) count from) end) ⌝ }
 {
     let mut at = from;
     let mut left = count;
@@ -122,7 +123,7 @@ pub fn place_after(s: &[u8], count: usize, from: usize, end: usize, size: usize)
 // The commit certificate at a place.
 pub fn read_commit(s: &[u8], at: usize, end: usize, size: usize) -> CommitReading
     requires { ⌜ (at ≤ end) × (end ≤ length (now s)) × (length (now s) ≤ submissionMost) × (size ≤ paper.signatureMost) ⌝ }
-    ensures { λ r. ⌜ r ≡ paper.commitReading size (now (s .entry)) at end ⌝ }
+    ensures { λ r. ⌜ (r ≡ paper.commitReading size (now (s .entry)) at end) × (paper.commitReadingNumber r ≡ paper.endNumber (commitEnd size (now (s .entry)) at) end) ⌝ }
 {
     if end < at + COMMIT_FIELDS_SIZE {
         return CommitReading::Refused;

@@ -1,13 +1,11 @@
 -- The report is that of the outcome.
 -- Assumes nothing.
-use mathlib.Core.Path.{sym, ap, _∙_}
-use mathlib.Core.List.{_++_}
+use mathlib.Core.Path.{sym, _∙_}
 use borrow.Author.Needs.{needs}
-use lib.ListN.{drop}
-use Rattle.report.specs.Report.{Answer, refused, reportSize, reportBytes}
+use Rattle.report.specs.Report.{refused}
 use Rattle.writing.specs.Answers.{accepted}
 use Rattle.auditing.specs.Outcomes.{answerOf}
-use Rattle.auditing.proofs.Outcomes.{accepted-says, accepted-answer, refused-answer}
+use Rattle.auditing.proofs.Outcomes.{accepted-says}
 use Rattle.auditing.proofs.write.Statement.{statement}
 use Rattle.auditing.proofs.write.Tie as tie
 
@@ -17,17 +15,16 @@ find-requires c κs =
     accepted-says (a .roster .now) (a .first .now) (a .second .now) (sym (c .before .before .validate .ensures) ∙ c .enum-told .given .1)
 
 returns : tie.Need-returns
-unfolding accepted
+unfolding accepted answerOf
 returns c =
-    let a = c .before .before .before .before .before .before .before .before .before .before .before .before .args in
-    let e = accepted-answer (a .roster .now) (a .first .now) (a .second .now) (sym (c .before .before .before .before .before .before .before .validate .ensures) ∙ c .before .before .before .before .before .enum-told .given .1) in
-    rw (e, ← c .before .before .before .before .find .ensures) (c .before .before .write-accepted .ensures .0, c .before .before .write-accepted .ensures .1)
+    let told = sym (c .before .before .before .before .before .before .before .validate .ensures) ∙ c .before .before .before .before .before .enum-told .given .1 in
+    rw (told, ← c .before .before .before .before .find .ensures) (c .before .before .write-accepted .ensures .0, c .before .before .write-accepted .ensures .1)
 
 returns-2 : tie.Need-returns-2
+unfolding answerOf
 returns-2 c =
-    let a = c .before .before .before .before .before .before .before .before .before .before .before .before .args in
-    let e = refused-answer (a .roster .now) (a .first .now) (a .second .now) (sym (c .before .before .before .before .before .before .before .validate .ensures) ∙ c .before .before .before .before .before .number .given .1) in
-    rw e (c .before .before .write-refused .ensures .0, c .before .before .write-refused .ensures .1)
+    let told = sym (c .before .before .before .before .before .before .before .validate .ensures) ∙ c .before .before .before .before .before .number .given .1 in
+    rw told (c .before .before .write-refused .ensures .0, c .before .before .write-refused .ensures .1)
 
 pub write-spec : {M : Type 1} → statement M
 write-spec =

@@ -30,7 +30,7 @@ returns-2 c =
     let laid = c .before .before .before .before .before .before .before .pre .1 in
     let stands = standing (a .size) (a .s .now) laid in
     let place : end - back ≡ commitFrom 4 (a .size) (a .s .now) = omega arith in
-    let beyond = no-commit-passes (a .size) (a .s .now) (end - back) end (sym (c .before .before .read-commit .ensures) ∙ c .enum-told .given .1) in
+    let beyond = no-commit-passes (a .size) (a .s .now) (end - back) end (sym (c .before .before .read-commit .ensures .0) ∙ c .enum-told .given .1) in
     let inside = commit-inside (a .size) (a .s .now) laid (λ e. c .before .before .before .before .if1 .left (omega arith)) in
     absurd (omega (arith, rw place at beyond))
 
@@ -41,7 +41,7 @@ returns-3 c =
     let back = c .before .before .before .before .before .before .distance .result in
     let stands = standing (a .size) (a .s .now) (c .before .before .before .before .before .before .before .before .pre .1) in
     let place : end - back ≡ commitFrom 4 (a .size) (a .s .now) = omega arith in
-    let says = commit-says (a .size) (a .s .now) (end - back) end (sym (c .before .before .before .read-commit .ensures) ∙ c .before .numbers .given .1) in
+    let says = commit-says (a .size) (a .s .now) (end - back) end (sym (c .before .before .before .read-commit .ensures .0) ∙ c .before .numbers .given .1) in
     rw (says .0, place) (found (a .size) (a .s .now) (λ e. c .before .before .before .before .before .if1 .left (omega arith)))
 
 pub commit-part-spec : {M : Type 1} → statement M

@@ -25,14 +25,14 @@ returns-3 : tie.Need-returns-3
 returns-3 c =
     let a = c .before .before .before .before .before .before .before .before .args in
     let end = c .before .before .before .before .before .before .trailer-at .result in
-    let beyond = no-commit-passes (a .size) (a .s .now) (a .from) end (sym (c .before .before .read-commit .ensures) ∙ c .enum-told .given .1) in
+    let beyond = no-commit-passes (a .size) (a .s .now) (a .from) end (sym (c .before .before .read-commit .ensures .0) ∙ c .enum-told .given .1) in
     commit-passes (a .size) (a .s .now) (a .from) (omega arith) (λ e. c .before .before .before .if2 .left (omega arith)) (omega arith)
 
 returns-4 : tie.Need-returns-4
 returns-4 c =
     let a = c .before .before .before .before .before .before .before .before .before .args in
     let end = c .before .before .before .before .before .before .before .trailer-at .result in
-    let says = commit-says (a .size) (a .s .now) (a .from) end (sym (c .before .before .before .read-commit .ensures) ∙ c .before .next .given .1) in
+    let says = commit-says (a .size) (a .s .now) (a .from) end (sym (c .before .before .before .read-commit .ensures .0) ∙ c .before .next .given .1) in
     ap (λ (n : ℕ). eqb n end) (says .1)
     ∙ ap (eqb (commitEnd (a .size) (a .s .now) (a .from))) (c .before .before .before .before .before .before .before .trailer-at .ensures)
     ∙ commit-ends (a .size) (a .s .now) (a .from) (omega arith) (λ e. c .before .before .before .before .if2 .left (omega arith))

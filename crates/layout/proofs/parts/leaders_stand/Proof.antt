@@ -13,19 +13,19 @@ returns : tie.Need-returns
 returns c =
     let a = c .before .before .before .before .before .before .args in
     let lead = c .before .before .before .leader-count .ensures .0 in
-    let e = sym (c .before .before .place-after .ensures) ∙ c .enum-told .given .1 in
+    let e = sym (c .before .before .place-after .ensures .0) ∙ c .enum-told .given .1 in
     leaders-pass (a .size) (a .s .now) (a .from) (rw (lead, c .before .before .before .before .trailer-at .ensures) at (beyond-passes (a .size) (a .s .now) _ (a .from) _ e))
 
 add-if1 : tie.Need-add-if1
 add-if1 c =
     let a = c .before .before .before .before .before .before .before .before .args in
-    let says = place-says (a .size) (a .s .now) _ (a .from) _ _ (sym (c .before .before .before .before .place-after .ensures) ∙ c .before .before .stamps .given .1) in
+    let says = place-says (a .size) (a .s .now) _ (a .from) _ _ (sym (c .before .before .before .before .place-after .ensures .0) ∙ c .before .before .stamps .given .1) in
     omega arith
 
 returns-2 : tie.Need-returns-2
 returns-2 c =
     let a = c .before .before .before .before .before .before .before .before .before .args in
-    let says = place-says (a .size) (a .s .now) _ (a .from) _ _ (sym (c .before .before .before .before .before .place-after .ensures) ∙ c .before .before .before .stamps .given .1) in
+    let says = place-says (a .size) (a .s .now) _ (a .from) _ _ (sym (c .before .before .before .before .before .place-after .ensures .0) ∙ c .before .before .before .stamps .given .1) in
     let lead = c .before .before .before .before .before .before .leader-count .ensures .0 in
     let here = rw lead at (says .0) in
     stamps-elsewhere (a .size) (a .s .now) (a .from) (λ e. c .if1 .taken (omega arith))
@@ -39,14 +39,14 @@ mul-commit-stands c =
 add-commit-stands : tie.Need-add-commit-stands
 add-commit-stands c =
     let a = c .before .before .before .before .before .before .before .before .before .args in
-    let says = place-says (a .size) (a .s .now) _ (a .from) _ _ (sym (c .before .before .before .before .before .place-after .ensures) ∙ c .before .before .before .stamps .given .1) in
+    let says = place-says (a .size) (a .s .now) _ (a .from) _ _ (sym (c .before .before .before .before .before .place-after .ensures .0) ∙ c .before .before .before .stamps .given .1) in
     let few = stamps-le (c .before .before .before .before .before .before .leader-count .result) (a .size) (omega arith) (c .before .before .before .before .before .before .before .before .before .pre .0 .signature) in
     omega arith
 
 commit-stands-requires : tie.Need-commit-stands-requires
 commit-stands-requires c κs =
     let a = c .before .before .before .before .before .before .before .before .before .args in
-    let says = place-says (a .size) (a .s .now) _ (a .from) _ _ (sym (c .before .before .before .before .before .place-after .ensures) ∙ c .before .before .before .stamps .given .1) in
+    let says = place-says (a .size) (a .s .now) _ (a .from) _ _ (sym (c .before .before .before .before .before .place-after .ensures .0) ∙ c .before .before .before .stamps .given .1) in
     let few = stamps-le (c .before .before .before .before .before .before .leader-count .result) (a .size) (omega arith) (c .before .before .before .before .before .before .before .before .before .pre .0 .signature) in
     let p = c .before .before .before .before .before .before .before .before .before .pre in
     (p .0, omega arith)
@@ -54,7 +54,7 @@ commit-stands-requires c κs =
 returns-3 : tie.Need-returns-3
 returns-3 c =
     let a = c .before .before .before .before .before .before .before .before .before .before .args in
-    let says = place-says (a .size) (a .s .now) _ (a .from) _ _ (sym (c .before .before .before .before .before .before .place-after .ensures) ∙ c .before .before .before .before .stamps .given .1) in
+    let says = place-says (a .size) (a .s .now) _ (a .from) _ _ (sym (c .before .before .before .before .before .before .place-after .ensures .0) ∙ c .before .before .before .before .stamps .given .1) in
     let lead = c .before .before .before .before .before .before .before .leader-count .ensures .0 in
     let here = rw lead at (says .0) in
     stamps-here (a .size) (a .s .now) (a .from) (omega arith) (rw (← here, ← lead) (c .commit-stands .ensures))

@@ -5,7 +5,7 @@ use Prim.Native.Nat.{_≤_}
 use native.Mathlib.Omega.{arith}
 use borrow.Author.Needs.{needs}
 use Rattle.submission.specs.Reading.{certificatesEnd}
-use Rattle.layout.proofs.Readings.{passes, next, arrives}
+use Rattle.layout.proofs.Readings.{placed, passes, next, arrives}
 use Rattle.layout.proofs.reader.place_after.Statement.{statement}
 use Rattle.layout.proofs.reader.place_after.Tie as tie
 
@@ -32,8 +32,9 @@ returns : tie.Need-returns Inv-loop μ-loop
 returns c =
     let a = c .before .before .before .before .before .before .args in
     let l = c .before .before .before .before .loop in
-    passes (a .size) (a .s .now) (a .count) (a .from) (a .end) (l .left) (l .at) (l .inv .1) (omega arith)
-    (sym (c .before .before .read .ensures) ∙ c .enum-told .given .1)
+    placed (a .size) (a .s .now) (a .count) (a .from) (a .end)
+    (passes (a .size) (a .s .now) (a .count) (a .from) (a .end) (l .left) (l .at) (l .inv .1) (omega arith)
+    (sym (c .before .before .read .ensures .0) ∙ c .enum-told .given .1))
 
 sub-left : tie.Need-sub-left Inv-loop μ-loop
 sub-left c = omega arith
@@ -46,13 +47,14 @@ loop-again c =
     let a = c .before .before .before .before .before .before .before .args in
     let l = c .before .before .before .before .before .loop in
     next (a .size) (a .s .now) (a .count) (a .from) (a .end) (l .left) (l .at) (l .inv .1) (omega arith)
-    (sym (c .before .before .before .read .ensures) ∙ c .before .next .given .1)
+    (sym (c .before .before .before .read .ensures .0) ∙ c .before .next .given .1)
 
 returns-2 : tie.Need-returns-2 Inv-loop μ-loop
 returns-2 c =
     let a = c .before .before .before .args in
     let l = c .before .loop in
-    arrives (a .size) (a .s .now) (a .count) (a .from) (a .end) (l .left) (l .at) (l .inv .1) (omega arith) (l .inv .0)
+    placed (a .size) (a .s .now) (a .count) (a .from) (a .end)
+    (arrives (a .size) (a .s .now) (a .count) (a .from) (a .end) (l .left) (l .at) (l .inv .1) (omega arith) (l .inv .0))
 
 pub place-after-spec : {M : Type 1} → statement M
 place-after-spec =

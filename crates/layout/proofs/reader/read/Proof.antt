@@ -2,7 +2,7 @@
 -- Assumes nothing.
 use native.Mathlib.Omega.{arith}
 use Rattle.layout.proofs.Inside.{certificate-fields}
-use Rattle.layout.proofs.Readings.{unread, read}
+use Rattle.layout.proofs.Readings.{numbered, unread, read}
 use borrow.Author.Needs.{needs}
 use Rattle.layout.proofs.reader.read.Statement.{statement}
 use Rattle.layout.proofs.reader.read.Tie as tie
@@ -10,17 +10,18 @@ use Rattle.layout.proofs.reader.read.Tie as tie
 returns : tie.Need-returns
 returns c =
     let a = c .before .before .args in
-    unread (a .size) (a .s .now) (a .at) (a .end) (omega (arith, certificate-fields (a .size) (a .s .now) (a .at)))
+    numbered (a .size) (a .s .now) (a .at) (a .end) (unread (a .size) (a .s .now) (a .at) (a .end) (omega (arith, certificate-fields (a .size) (a .s .now) (a .at))))
 
 returns-2 : tie.Need-returns-2
 returns-2 c =
     let a = c .before .before .before .before .args in
-    unread (a .size) (a .s .now) (a .at) (a .end) (omega arith)
+    numbered (a .size) (a .s .now) (a .at) (a .end) (unread (a .size) (a .s .now) (a .at) (a .end) (omega arith))
 
 returns-3 : tie.Need-returns-3
 returns-3 c =
     let a = c .before .before .before .before .before .args in
-    rw (c .numbers-at .ensures, c .before .before .certificate-end .ensures) (read (a .size) (a .s .now) (a .at) (a .end) (omega arith))
+    numbered (a .size) (a .s .now) (a .at) (a .end)
+    (rw (c .numbers-at .ensures, c .before .before .certificate-end .ensures) (read (a .size) (a .s .now) (a .at) (a .end) (omega arith)))
 
 pub read-spec : {M : Type 1} → statement M
 read-spec =

@@ -7,7 +7,7 @@ use lib.Count.{ones}
 use Rattle.submission.specs.Reading.{signersAt, commitAt, commitEnd}
 use Rattle.layout.specs.Reader.{commitNumbersAt}
 use Rattle.layout.proofs.Inside.{commit-fields}
-use Rattle.layout.proofs.Readings.{no-commit, read-commit}
+use Rattle.layout.proofs.Readings.{commit-numbered, no-commit, read-commit}
 use borrow.Author.Needs.{needs}
 use Rattle.layout.proofs.reader.read_commit.Statement.{statement}
 use Rattle.layout.proofs.reader.read_commit.Tie as tie
@@ -15,14 +15,15 @@ use Rattle.layout.proofs.reader.read_commit.Tie as tie
 returns : tie.Need-returns
 returns c =
     let a = c .before .before .args in
-    no-commit (a .size) (a .s .now) (a .at) (a .end) (omega (arith, commit-fields (a .size) (a .s .now) (a .at)))
+    commit-numbered (a .size) (a .s .now) (a .at) (a .end)
+    (no-commit (a .size) (a .s .now) (a .at) (a .end) (omega (arith, commit-fields (a .size) (a .s .now) (a .at))))
 
 returns-2 : tie.Need-returns-2
 unfolding commitEnd signersAt
 returns-2 c =
     let a = c .before .before .before .before .before .before .args in
     let next = c .before .signatures-size .ensures .0 ∙ ap (λ (mask : ℕ). a .size * ones mask) (c .before .before .u16-at .ensures .0) in
-    no-commit (a .size) (a .s .now) (a .at) (a .end) (omega arith)
+    commit-numbered (a .size) (a .s .now) (a .at) (a .end) (no-commit (a .size) (a .s .now) (a .at) (a .end) (omega arith))
 
 returns-3 : tie.Need-returns-3
 unfolding commitEnd commitNumbersAt commitAt signersAt
@@ -30,7 +31,8 @@ returns-3 c =
     let a = c .before .before .before .before .before .before .args in
     let mask = c .before .before .u16-at .ensures .0 in
     let next = c .before .signatures-size .ensures .0 ∙ ap (λ (mask : ℕ). a .size * ones mask) mask in
-    rw (c .before .before .before .u32-at .ensures .0, next, mask) (read-commit (a .size) (a .s .now) (a .at) (a .end) (omega arith))
+    commit-numbered (a .size) (a .s .now) (a .at) (a .end)
+    (rw (c .before .before .before .u32-at .ensures .0, next, mask) (read-commit (a .size) (a .s .now) (a .at) (a .end) (omega arith)))
 
 pub read-commit-spec : {M : Type 1} → statement M
 read-commit-spec =

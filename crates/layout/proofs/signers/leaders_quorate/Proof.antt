@@ -41,7 +41,7 @@ returns c =
     let a = c .before .before .before .before .before .before .args in
     let l = c .before .before .before .before .loop in
     never-refused (a .size) (a .s .now) (a .n) (l .left) (l .at) (a .end) (l .inv .1) (omega arith) (l .inv .0)
-    (sym (c .before .before .read .ensures) ∙ c .enum-told .given .1)
+    (sym (c .before .before .read .ensures .0) ∙ c .enum-told .given .1)
 
 quorate-requires : tie.Need-quorate-requires Inv-loop μ-loop
 quorate-requires c κs = (c .before .before .before .before .before .before .before .pre .0, c .before .before .before .before .before .before .before .pre .1)
@@ -51,7 +51,7 @@ returns-2 c =
     let a = c .before .before .before .before .before .before .before .before .before .args in
     let l = c .before .before .before .before .before .before .before .loop in
     too-few (a .size) (a .s .now) (a .n) (l .left) (l .at) (a .end) (l .inv .1) (omega arith) (l .inv .0)
-    (sym (c .before .before .before .before .before .read .ensures) ∙ c .before .before .before .c .given .1)
+    (sym (c .before .before .before .before .before .read .ensures .0) ∙ c .before .before .before .c .given .1)
     (c .before .quorate .ensures)
     (c .if1 .taken)
 
@@ -66,7 +66,7 @@ loop-again c =
     let a = c .before .before .before .before .before .before .before .before .before .args in
     let l = c .before .before .before .before .before .before .before .loop in
     enough (a .size) (a .s .now) (a .n) (l .left) (l .at) (a .end) (l .inv .1) (omega arith) (l .inv .0)
-    (sym (c .before .before .before .before .before .read .ensures) ∙ c .before .before .before .c .given .1)
+    (sym (c .before .before .before .before .before .read .ensures .0) ∙ c .before .before .before .c .given .1)
     (c .before .quorate .ensures)
     (c .if1 .left)
 
