@@ -7,7 +7,13 @@ use Rattle.lanes.proofs.functions.round.Tie as tie
 
 returns : tie.Need-returns
 unfolding round
-returns c = cc
+returns c =
+    simp (
+      c .add2 .ensures,
+      c .before .add .ensures,
+      c .before .before .temp2 .ensures,
+      c .before .before .before .temp1 .ensures,
+    )
 
 pub round-spec : {M : Type 1} → statement M
 round-spec = tie.close (tie.spec (λ c κs. search needs)

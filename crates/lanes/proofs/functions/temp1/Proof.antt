@@ -7,7 +7,15 @@ use Rattle.lanes.proofs.functions.temp1.Tie as tie
 
 returns : tie.Need-returns
 unfolding temp₁
-returns c = cc
+returns c =
+    simp (
+      c .add4 .ensures,
+      c .before .add3 .ensures,
+      c .before .before .add2 .ensures,
+      c .before .before .before .add .ensures,
+      c .before .before .before .before .big-sigma1 .ensures,
+      c .before .before .before .before .before .choose .ensures,
+    )
 
 pub temp1-spec : {M : Type 1} → statement M
 temp1-spec =

@@ -7,7 +7,12 @@ use Rattle.lanes.proofs.functions.temp2.Tie as tie
 
 returns : tie.Need-returns
 unfolding temp₂
-returns c = cc
+returns c =
+    simp (
+      c .add .ensures,
+      c .before .majority .ensures,
+      c .before .before .big-sigma0 .ensures,
+    )
 
 pub temp2-spec : {M : Type 1} → statement M
 temp2-spec = tie.close (tie.spec (λ c κs. search needs)

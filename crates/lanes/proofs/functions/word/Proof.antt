@@ -5,7 +5,14 @@ use Rattle.lanes.proofs.functions.word.Statement.{statement}
 use Rattle.lanes.proofs.functions.word.Tie as tie
 
 returns : tie.Need-returns
-returns c = cc
+returns c =
+    simp (
+      c .add3 .ensures,
+      c .before .add2 .ensures,
+      c .before .before .small-sigma0 .ensures,
+      c .before .before .before .add .ensures,
+      c .before .before .before .before .small-sigma1 .ensures,
+    )
 
 pub word-spec : {M : Type 1} → statement M
 word-spec =
