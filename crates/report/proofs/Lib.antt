@@ -3,3 +3,4 @@ mod Examples
 mod Fairness
 pub mod Figures
 pub mod Demand3
+mod Premises

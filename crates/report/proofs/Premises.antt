@@ -1,0 +1,113 @@
+-- The premises of fairness, met all at once by one example: three boards, two accepted submissions with empty logs, and a board that raises its term, adds a
+-- record, stamps it and gives a receipt for it. That rules out that `Fairness` holds only because nothing meets its premises: board rules that no such acts
+-- keep, strings that are never apart, or one premise against another. It does not show more: no signature stands in these submissions, so that
+-- `OwnSignatures` asks nothing here, and no board is named.
+-- Assumes nothing.
+use mathlib.Core.Path.{_≡_, refl, sym, _∙_}
+use mathlib.Core.Bool.{true, false}
+use mathlib.Core.List.{List, [], _∷_, flatMap, List·Memᴰ, List·Memᴰ·not-nil}
+use Prim.Native.Nat.{ℕ, _≤_}
+use borrow.Author.Tests.{ltb-true}
+use native.Mathlib.Omega.{arith}
+use lib.Dec.{ltb, lit<, lit≤}
+use lib.ListN.{replicate}
+use Rattle.words.specs.BigEndian.{number, be, numberAt, same, Bytes, none, more}
+use Rattle.words.proofs.Same.{same-true}
+use Rattle.refusal.specs.Checks.{all, every, check, refusal}
+use Rattle.refusal.proofs.Laws.{cond-true, every-mem}
+use Rattle.lm_digits.specs.Parameters.{row}
+use Rattle.lms.specs.Tree.{height}
+use Rattle.lms.specs.Check.{signatureLength, pathAt, oneTimeBytes}
+use Rattle.roster.specs.Roster.{cluster, boards, keyOf, treeType, oneTimeType, levels, signatureSize, everyBoard, sized, typed, single, rosterNumber}
+use Rattle.roster.specs.Masks.{signer}
+use Rattle.chain.specs.Log.{version1, Record, chainString, chainFrom, chainStrings, termFrom, lastTerm}
+use Rattle.chain.specs.Apart.{Apart}
+use Rattle.replica.specs.Ends.{rising}
+use Rattle.replica.specs.Replica.{Act, raise, add, stamp, receipt, first, fitsTerm, fitsIndex, fitsRecords, rules, allowed, after, keeps, held}
+use Rattle.submission.specs.Trailer.{name, word, recordCount, leaderCount, distance, version}
+use Rattle.submission.specs.View.{runs, runsAfter, leads, leadsOf, slots, receiptsOf}
+use Rattle.submission.specs.Reading.{view, laidOut, recordSize, recordsOf, certificates, certificatesEnd, stampsAt, leadersFrom, stampsFrom, commitFrom, commitOf}
+use Rattle.submission.specs.Validate.{sized as sizedSubmission, versioned, named, counted, commitSigners, masks, ordered, oneEach, within, formOf, viewOf, slotsOf, validate}
+use Rattle.report.specs.Report.{short, answer, auditNumber, reportAfter, namedIn}
+use Rattle.report.specs.Claims.{OwnSignatures, strings, Fairness}
+use Rattle.report.specs.Figures.{sampleKey, sampleRoster, sampleSubmission}
+use Rattle.report.proofs.Demand3.{fairness}
+
+-- ---- the example
+
+three : List ℕ
+three = sampleRoster 3 (1 ∷ 2 ∷ 3 ∷ [])
+
+one : Record
+one = record { term = 1; digest = replicate 32 0 }
+
+acts : List Act
+acts = raise 1 ∷ add one ∷ stamp ∷ receipt 1 ∷ []
+
+buffer : List ℕ
+buffer = replicate 53 0
+
+-- the acts keep the rules
+kept : keeps (formOf three) (boards three) first acts ≡ true
+unfolding three one acts sampleRoster sampleKey be flatMap cluster boards numberAt number formOf version1 first keeps allowed all rules after fitsTerm fitsIndex fitsRecords
+    lastTerm termFrom
+kept = refl
+
+-- no signature stands in the submissions
+own : OwnSignatures three sampleSubmission sampleSubmission 1 acts
+unfolding OwnSignatures three sampleRoster sampleKey sampleSubmission be number numberAt flatMap cluster boards keyOf treeType levels signatureSize signatureLength pathAt oneTimeBytes
+    row height word recordCount leaderCount distance runs runsAfter leads leadsOf slots receiptsOf view recordSize recordsOf certificates certificatesEnd stampsAt leadersFrom
+    stampsFrom commitFrom commitOf formOf version1 viewOf slotsOf
+own x m g = absurd (List·Memᴰ·not-nil m)
+
+-- every string is its record's: no hash has to be computed
+string : List ℕ
+string = chainString (formOf three) 1 one (replicate 32 0)
+
+one-string : every (λ x. same x string) (strings three sampleSubmission sampleSubmission acts) ≡ true
+unfolding every same string strings three one acts sampleRoster sampleKey sampleSubmission be number numberAt flatMap cluster keyOf treeType levels signatureSize signatureLength
+    pathAt oneTimeBytes row height word recordCount leaderCount distance view recordSize recordsOf certificates certificatesEnd stampsAt leadersFrom stampsFrom commitFrom commitOf
+    formOf version1 viewOf first held after chainStrings chainFrom chainString
+one-string = refl
+
+alike : (x : List ℕ) → List·Memᴰ x (strings three sampleSubmission sampleSubmission acts) → x ≡ string
+alike x m = same-true x string (every-mem (λ x. same x string) _ one-string x m)
+
+apart : Apart (strings three sampleSubmission sampleSubmission acts) (strings three sampleSubmission sampleSubmission acts)
+unfolding Apart
+apart x y mx my e = alike x mx ∙ sym (alike y my)
+
+-- 53 bytes of report: the two are accepted
+accepted : auditNumber three sampleSubmission sampleSubmission buffer ≡ 0
+unfolding three buffer auditNumber short answer sampleKey sampleRoster sampleSubmission be number numberAt same flatMap all every check refusal cluster boards keyOf treeType
+    oneTimeType everyBoard sized typed single rosterNumber version1 rising name word recordCount leaderCount distance version runs runsAfter leads leadsOf slots receiptsOf view
+    laidOut recordSize recordsOf certificates certificatesEnd stampsAt leadersFrom stampsFrom commitFrom commitOf sizedSubmission versioned named counted commitSigners masks ordered
+    oneEach within formOf viewOf slotsOf validate signatureSize signatureLength pathAt oneTimeBytes row levels height
+accepted = refl
+
+-- board 1 is one of the three
+a-board : 1 ≤ boards three
+unfolding three sampleRoster sampleKey be flatMap boards numberAt number
+a-board = lit≤ tt
+
+-- the submission's bytes are below 256
+tested : (l : List ℕ) → every (λ b. ltb b 256) l ≡ true → Bytes l
+unfolding every
+tested [] e = none
+tested (b ∷ l) e = let p = cond-true (ltb b 256) (every (λ b. ltb b 256) l) e in more (ltb-true b 256 (p .0)) (tested l (p .1))
+
+bytes : Bytes sampleSubmission
+unfolding sampleSubmission be flatMap every
+bytes = tested _ refl
+
+-- all at once
+premises-met : Bytes sampleSubmission × (auditNumber three sampleSubmission sampleSubmission buffer ≡ 0) × (1 ≤ boards three)
+    × (keeps (formOf three) (boards three) first acts ≡ true) × OwnSignatures three sampleSubmission sampleSubmission 1 acts
+    × Apart (strings three sampleSubmission sampleSubmission acts) (strings three sampleSubmission sampleSubmission acts)
+premises-met = (bytes, accepted, a-board, kept, own, apart)
+
+-- and what fairness says then: board 1 is not named
+not-named : signer (namedIn (reportAfter three sampleSubmission sampleSubmission buffer)) 1 ≡ false
+unfolding Fairness
+not-named =
+    fairness three sampleSubmission sampleSubmission buffer bytes bytes (λ e. omega (arith, accepted, e)) 1 (lit< tt) a-board acts kept own apart
