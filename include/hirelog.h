@@ -101,9 +101,9 @@ uint32_t hirelog_lms_check(const uint8_t *key, size_t key_len, const uint8_t *me
  * The audit of two submissions against a roster (document 01): which boards signed statements
  * that contradict each other, and the first index at which both committed different records.
  *
- * Returns the report's number: HIRELOG_OK if both submissions are accepted, else the lowest of 1
- * to 15 that applies. HIRELOG_SHORT_REPORT comes first, then 2 to 4 for the roster, then 5 to 15
- * for the first submission, then 5 to 15 for the second. HIRELOG_LONG_MESSAGE is never returned.
+ * Returns the report's number: HIRELOG_OK if both submissions are accepted, else the first of 1 to
+ * 15 that applies, in this order: HIRELOG_SHORT_REPORT, 2 to 4 for the roster, 5 to 15 for the
+ * first submission, 5 to 15 for the second. HIRELOG_LONG_MESSAGE is never returned.
  *
  * With HIRELOG_SHORT_REPORT (report_len below HIRELOG_REPORT_SIZE) nothing is written. Else the
  * first 53 bytes at report are written, and the others are left as they were. All numbers in them
@@ -114,7 +114,13 @@ uint32_t hirelog_lms_check(const uint8_t *key, size_t key_len, const uint8_t *me
  *   bytes 6 to 7  the boards named: bit k - 1, counted from the lowest, is board k;
  *   bytes 8 to 52 nine rows of 5 bytes, for boards 1 to 9: the lowest rule that the board
  *                 broke (1 byte) and the lowest term for it (4 bytes), 0 and 0 if it is not named.
- * After a refusal bytes 2 to 52 are 0.
+ * After a refusal bytes 2 to 52 are 0. The rules, each on one statement from the first submission
+ * and one from the second, and the row's term:
+ *   1  votes for two candidates in one term; that term;
+ *   2  stamps of one term on logs that differ in a record that both cover; that term;
+ *   3  a receipt in the first's commit certificate, and a vote of a higher term in the second for a
+ *      log staler than the record at that index (term compared first, then index); the vote's term;
+ *   4  rule 3 with the submissions exchanged.
  *
  * The caller sees to it that
  *   - roster points to roster_len readable bytes, first to first_len, second to second_len, and
