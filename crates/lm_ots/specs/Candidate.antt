@@ -7,7 +7,7 @@ use Rattle.lm_hash.specs.Tagged.{tagged}
 use Rattle.lm_digits.specs.declared.Parameters.{Parameters}
 use Rattle.lm_digits.specs.Digits.{coef, withChecksum}
 
--- 4.1, 5.1: the constants that set hashes of different uses apart
+-- 4.3 and 4.5: the constants that set hashes of different uses apart
 unfoldable pub D-PBLC : ℕ
 D-PBLC = 0x8080
 

@@ -15,7 +15,7 @@ height number =
     (cond (eqb number 6) (Levels 10)
     (cond (eqb number 7) (Levels 15) (cond (eqb number 8) (Levels 20) (cond (eqb number 9) (Levels 25) Unknown))))
 
--- 5.1: the constants that set the tree's hashes apart
+-- 5.3: the constants that set the tree's hashes apart
 unfoldable pub D-LEAF : ℕ
 D-LEAF = 0x8282
 

@@ -32,6 +32,8 @@ pub data Act : Type 0 where
 
 -- ---- fields that fit: no act brings into the state, or signs, a term or an index that does not fit its field
 
+-- the two tests of a length 32 are the sizes of a payload digest and of a pointer, and no rule of the sentence above
+
 unfoldable pub fitsTerm : Form → ℕ → Bool
 fitsTerm form t = ltb t (256 ^ form .termBytes)
 

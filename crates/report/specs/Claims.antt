@@ -18,7 +18,7 @@ use Rattle.report.specs.Report.{namedIn}
 
 -- ---- naming
 
--- at some index the two have records, and those differ
+-- at some index the two have records, and those differ; the index counts from 0 here, and from 1 in document 01
 pub record Differ (l m : List Record) : Type 0 where
   pub index : ℕ
   pub one : Record

@@ -46,7 +46,7 @@ auditFigures =
     figure (quorum 9) 5 ∷
     figure (rosterNumber (sampleRoster 2 (1 ∷ 2 ∷ []))) 2 ∷
     figure (rosterNumber (sampleRoster 10 (1 ∷ 2 ∷ 3 ∷ 4 ∷ 5 ∷ 6 ∷ 7 ∷ 8 ∷ 9 ∷ 10 ∷ []))) 2 ∷
-    figure (rosterNumber (sampleRoster 3 (1 ∷ 2 ∷ 3 ∷ []))) 0 ∷
+    figure (rosterNumber (sampleRoster 3 (1 ∷ 2 ∷ 3 ∷ []))) 0 ∷  -- a roster that is accepted, beside the paper's figures
     figure (receiptThenVote 3 6) 3 ∷
     figure (receiptThenVote 3 7) 0 ∷
     figure (receiptThenVote 4 1) 0 ∷

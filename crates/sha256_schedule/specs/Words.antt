@@ -11,7 +11,7 @@ infixl 65 _⊞_
 unfoldable pub _⊞_ : ℕ → ℕ → ℕ
 x ⊞ y = (x + y) % 2 ^ 32
 
--- 3.2, 4: SHR and ROTR
+-- 3.2, 3 and 4: SHR and ROTR
 unfoldable pub shr : ℕ → ℕ → ℕ
 shr n x = x / 2 ^ n
 
