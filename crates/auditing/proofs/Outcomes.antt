@@ -1,6 +1,6 @@
 -- The outcome is the answer's: one number after the other.
 -- Assumes nothing.
-use mathlib.Core.Path.{_≡_, refl, sym, ap, _∙_}
+use mathlib.Core.Path.{_≡_, refl, ap, _∙_}
 use mathlib.Core.Bool.{Bool, true, false, cond}
 use mathlib.Core.List.{List}
 use Prim.Native.Nat.{ℕ}
@@ -12,8 +12,7 @@ use lib.Dec.{eqb}
 use Rattle.roster.specs.Roster.{rosterNumber, signatureSize}
 use Rattle.submission.specs.Validate.{validate, viewOf}
 use Rattle.forensics.specs.Findings.{findings}
-use Rattle.report.specs.Report.{Answer, refused, answer}
-use Rattle.auditing.specs.declared.Outcome.{Outcome}
+use Rattle.report.specs.Report.{refused, answer}
 use Rattle.auditing.specs.declared.Outcome.the-variants.{Accepted, Refused}
 use Rattle.auditing.specs.Outcomes.{outcome, answerOf}
 

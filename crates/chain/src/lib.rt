@@ -1,7 +1,6 @@
 // Records, chain strings, pointers and statements (document 01, "Chain and statements"), for version 1: terms of 4 bytes.
 ghost use mathlib.Core.Path.{_≡_};
 ghost use mathlib.Core.List.{_∷_, _++_};
-ghost use Prim.Native.Nat.{_<_};
 ghost use lib.ListN.{length};
 ghost use Rattle.words.specs.BigEndian.{be};
 ghost use Rattle.sha256.specs.Sha256.{bytesOf, sha256};

@@ -11,7 +11,7 @@ use lib.Count.{ones, ones-le}
 use lib.ListN.{length}
 use Rattle.refusal.proofs.Laws.{all-cons}
 use Rattle.submission.specs.Trailer.{trailerSize, trailerAt, recordCount, leaderCount, distance}
-use Rattle.submission.specs.Reading.{recordSize, ballotSize, signersAt, certificateEnd, certificatesEnd, commitEnd, leadersFrom, stampsFrom, commitFrom, laidOut}
+use Rattle.submission.specs.Reading.{recordSize, ballotSize, certificateEnd, certificatesEnd, commitEnd, leadersFrom, stampsFrom, commitFrom, laidOut}
 use Rattle.layout.specs.Reader.{signatureMost, Bounds, fieldsSize, commitFieldsSize}
 use Rattle.submission.specs.Validate.{submissionMost, recordMost, leaderMost, sized, counted}
 
@@ -30,23 +30,11 @@ module _ (S : ℕ) (s : List ℕ) where
   unfolding certificateEnd ballotSize
   certificate-fields at = omega arith
 
-  pub certificate-length : (at : ℕ) → certificateEnd 4 S s at ≡ at + fieldsSize + S * ones (signersAt s (at + ballotSize 4))
-  unfolding certificateEnd ballotSize
-  certificate-length at = omega arith
-
   pub certificates-from : (count at : ℕ) → at ≤ certificatesEnd 4 S s count at
   unfolding certificatesEnd
   certificates-from zero at = le-refl at
   certificates-from (suc count) at =
       le-trans (omega (arith, certificate-fields at)) (certificates-from count (certificateEnd 4 S s at))
-
-  -- the first of so many that end by a place
-  pub certificate-inside : (left at end : ℕ) → certificatesEnd 4 S s (suc left) at ≤ end
-      → (at + fieldsSize ≤ end) × (certificateEnd 4 S s at ≤ end)
-  unfolding certificatesEnd
-  certificate-inside left at end h =
-      let next = le-trans (certificates-from left (certificateEnd 4 S s at)) h in
-      (le-trans (certificate-fields at) next, next)
 
   pub commit-fields : (at : ℕ) → at + commitFieldsSize ≤ commitEnd S s at
   unfolding commitEnd

@@ -5,7 +5,7 @@ use mathlib.Core.List.{List, [], _∷_, _++_, append-assoc}
 use Prim.Native.Nat.{ℕ, zero, suc, _+_, _-_, _*_, _/_, _≤_, _<_}
 use native.Mathlib.Numerals.{add-one}
 use native.Mathlib.Omega.{arith}
-use lib.ListN.{length, getD, take, drop, set, replicate, length-append, length-replicate, length-drop, take-append-drop, List·getD-append, List·getD-eq-default}
+use lib.ListN.{length, getD, take, drop, set, replicate, length-append, length-replicate, length-drop, take-append-drop, List·getD-eq-default}
 use lib.Seq.{getD-append-add, take-suc, take-suc-set, take-append-le, take-take, take-all, drop-append-add, length-take-le}
 use Rattle.sha256.specs.Sha256.{initial, padding, parse, compress, hash, bytesOf, sha256}
 use Rattle.sha256.proofs.Blocks.{sha256-head}

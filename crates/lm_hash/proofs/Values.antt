@@ -4,12 +4,10 @@ use mathlib.Core.Path.{_≡_, refl, sym, ap, _∙_}
 use mathlib.Core.List.{List, [], _∷_, _++_, flatMap}
 use Prim.Native.Nat.{ℕ, zero, suc, _+_, _*_, _/_, _%_, _≤_, _<_}
 use native.Mathlib.Nat.{add-assoc, div-one}
-use native.Mathlib.Numerals.{add-one}
 use native.Mathlib.Omega.{arith}
-use lib.ListN.{length, getD, take, drop, set, length-drop}
-use lib.Seq.{sets, take-suc, length-take-le}
+use lib.ListN.{length, getD, take, drop, length-drop}
 use Rattle.words.specs.BigEndian.{be, numberAt}
-use Rattle.words.proofs.Laws.{bytes-each, bytes-drop, sets-append}
+use Rattle.words.proofs.Laws.{bytes-each, bytes-drop}
 use Rattle.sha256.specs.declared.State.{State}
 use Rattle.sha256.specs.Sha256.{parse, wordsOf, bytesOf}
 use Rattle.lm_hash.specs.declared.Leaf.{Leaf}

@@ -1,6 +1,5 @@
 // The public key candidate of a one-time signature (RFC 8554, 4.6, algorithm 4b).
 ghost use mathlib.Core.Path.{_≡_};
-ghost use mathlib.Core.List.{_++_};
 ghost use Prim.Native.Nat.{_+_, _*_, _≤_, _<_};
 ghost use lib.ListN.{length, take, drop};
 ghost use Rattle.sha256.specs.Service.{limit};

@@ -1,6 +1,6 @@
 -- The signature check (RFC 8554, 5.4.2, algorithms 6 and 6a), and the answer of the service for every input (document 01,
 -- "Digest and signature").
-use mathlib.Core.Bool.{Bool, true, false, cond}
+use mathlib.Core.Bool.{Bool, false, cond}
 use mathlib.Core.List.{List}
 use Prim.Native.Nat.{ℕ, _+_, _*_, _^_}
 use lib.Dec.{eqb, ltb}

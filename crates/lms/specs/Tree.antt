@@ -2,7 +2,7 @@
 -- signature"; 5.1, table 2), and the root that a leaf and its path lead to (5.4.2, algorithm 6a, step 4). m is 32.
 use mathlib.Core.Bool.{cond}
 use mathlib.Core.List.{List, _++_}
-use Prim.Native.Nat.{ℕ, zero, suc, _+_, _*_, _/_, _%_, _^_}
+use Prim.Native.Nat.{ℕ, zero, suc, _+_, _/_, _%_, _^_}
 use lib.Dec.{eqb}
 use lib.ListN.{take, drop}
 use Rattle.lm_hash.specs.Tagged.{tagged}

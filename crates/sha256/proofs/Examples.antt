@@ -1,8 +1,7 @@
 -- The definition of SHA-256 on two published messages, by computation.
 -- Assumes nothing.
 use mathlib.Core.Path.{_≡_, refl}
-use mathlib.Core.List.{List, [], _∷_, flatMap}
-use Prim.Native.Nat.{ℕ}
+use mathlib.Core.List.{[], _∷_, flatMap}
 use Rattle.words.specs.BigEndian.{number, be}
 use Rattle.sha256_tables.specs.Constants.{constants, initialWords}
 use Rattle.sha256.specs.Sha256.{_⊞_, shr, rotr, ch, maj, Σ₀, Σ₁, σ₀, σ₁, zeros, padding, parse, nextWord, extend, schedule, temp₁, temp₂, round, rounds, plus, compress, blocks, hash, initial, wordsOf, bytesOf, sha256}

@@ -3,7 +3,7 @@
 use mathlib.Core.Path.{_≡_, _∙_}
 use mathlib.Core.List.{List}
 use Prim.Native.Nat.{ℕ, zero, suc, _+_}
-use native.Mathlib.Nat.{zero-add, suc-add, add-zero, add-suc, add-assoc}
+use native.Mathlib.Nat.{zero-add, suc-add, add-zero, add-suc}
 use lib.ListN.{getD}
 use Rattle.sha256.specs.declared.State.{State}
 use Rattle.sha256_tables.specs.Constants.{constants}

@@ -1,13 +1,13 @@
 -- One more word of the message schedule: what a turn of the loop that fills the array keeps.
 -- Assumes nothing.
-use mathlib.Core.Path.{_≡_, refl, sym, ap, _∙_}
-use mathlib.Core.List.{List, [], _∷_, _++_}
+use mathlib.Core.Path.{_≡_}
+use mathlib.Core.List.{List}
 use Prim.Native.Nat.{ℕ, suc, _+_, _-_, _≤_, _<_}
 use native.Mathlib.Numerals.{add-one}
 use native.Mathlib.Omega.{arith}
-use lib.ListN.{length, getD, take, set}
+use lib.ListN.{length, take, set}
 use lib.Seq.{take-suc-set, getD-take}
-use Rattle.sha256_schedule.specs.Words.{_⊞_, σ₀, σ₁, nextWord, extend}
+use Rattle.sha256_schedule.specs.Words.{nextWord, extend}
 
 -- the next word looks only at words before it
 next-take : (w : List ℕ) (i : ℕ) → 16 ≤ i → nextWord (take i w) i ≡ nextWord w i

@@ -1,6 +1,6 @@
 -- The constants of SHA-256 (FIPS 180-4, 4.2.2 and 5.3.3), and the rule that each table is claimed to follow.
 use mathlib.Core.List.{List, [], _∷_}
-use Prim.Native.Nat.{ℕ, zero, suc, _+_, _*_, _%_, _^_, _≤_, _<_}
+use Prim.Native.Nat.{ℕ, suc, _+_, _*_, _%_, _^_, _≤_, _<_}
 use mathlib.Core.Path.{_≡_}
 use lib.ListN.{length, getD}
 

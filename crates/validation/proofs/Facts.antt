@@ -1,7 +1,7 @@
 -- What the checks say in the form that the functions ask for: places inside, one leader certificate for each term, and the signers of each
 -- certificate.
 -- Assumes nothing.
-use mathlib.Core.Path.{_≡_, sym, ap, _∙_}
+use mathlib.Core.Path.{_≡_, sym, _∙_}
 use mathlib.Core.Bool.{Bool, true, cond}
 use mathlib.Core.List.{List, map}
 use mathlib.Core.Logic.{⊎-elim}

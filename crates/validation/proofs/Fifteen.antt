@@ -1,7 +1,7 @@
 -- Check 15 is its three parts together: votes, stamps, receipts. The votes are those of the certificates, whatever terms they go with.
 -- Assumes nothing.
 use mathlib.Core.Path.{_≡_, refl, sym, ap, _∙_}
-use mathlib.Core.Bool.{Bool, true, false, not, cond}
+use mathlib.Core.Bool.{Bool, true, false, cond}
 use mathlib.Core.List.{List, [], _∷_, _++_, map, flatMap}
 use mathlib.Core.Option.{some, none}
 use Prim.Native.Nat.{ℕ}

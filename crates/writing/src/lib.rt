@@ -1,6 +1,6 @@
 // The report's bytes, written (document 01, "The report"): number, where, fork index, named boards, and nine rows.
 ghost use mathlib.Core.Path.{_≡_};
-ghost use mathlib.Core.List.{[], _∷_, _++_, map, flatMap};
+ghost use mathlib.Core.List.{_++_, map, flatMap};
 ghost use Prim.Native.Nat.{_+_, _≤_, _<_};
 ghost use lib.ListN.{length, drop};
 ghost use lib.Seq.{sets};

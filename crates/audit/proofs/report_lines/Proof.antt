@@ -2,7 +2,6 @@
 -- Assumes nothing.
 use mathlib.Core.Path.{ap}
 use borrow.Author.Needs.{needs}
-use lib.ListN.{replicate}
 use Prim.Native.Nat.{_-_}
 use Rattle.lines.specs.Lines.{lines}
 use Rattle.audit.proofs.Printed.{printed}

@@ -2,7 +2,6 @@
 -- Assumes nothing.
 use mathlib.Core.Path.{sym, _∙_}
 use borrow.Author.Needs.{needs}
-use Rattle.report.specs.Report.{refused}
 use Rattle.writing.specs.Answers.{accepted}
 use Rattle.auditing.specs.Outcomes.{answerOf}
 use Rattle.auditing.proofs.Outcomes.{accepted-says}

@@ -1,9 +1,6 @@
 -- The chain string in two pieces, hashed one after the other.
 -- Assumes nothing.
-use mathlib.Core.Path.{_∙_}
 use borrow.Author.Needs.{needs}
-use native.Mathlib.Omega.{arith}
-use lib.ListN.{length}
 use Rattle.chain.proofs.next_pointer.Statement.{statement}
 use Rattle.chain.proofs.next_pointer.Tie as tie
 

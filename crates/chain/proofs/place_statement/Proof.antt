@@ -1,7 +1,6 @@
 -- The kind, then the name, term, index and pointer.
 -- Assumes nothing.
 use borrow.Author.Needs.{needs}
-use native.Mathlib.Omega.{arith}
 use mathlib.Core.Path.{refl}
 use lib.ListN.{replicate}
 use Rattle.words.specs.BigEndian.{be}

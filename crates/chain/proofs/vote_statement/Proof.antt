@@ -1,7 +1,6 @@
 -- The kind, then the name, then the fields.
 -- Assumes nothing.
 use borrow.Author.Needs.{needs}
-use native.Mathlib.Omega.{arith}
 use mathlib.Core.Path.{refl}
 use lib.ListN.{replicate}
 use Rattle.chain.proofs.Statements.{vote-parts}

@@ -1,11 +1,10 @@
 -- One digit a turn, and the sum of at most 256 digits fits.
 -- Assumes nothing.
-use Prim.Native.Nat.{_+_, _-_, _*_, _/_, _^_, _≤_, _<_}
+use Prim.Native.Nat.{_-_, _/_, _≤_}
 use mathlib.Core.Path.{_≡_, refl, ap, _∙_}
 use native.Mathlib.Nat.{div-le-self, lt-of-lt-of-le}
 use native.Mathlib.Numerals.{add-one}
 use native.Mathlib.Omega.{arith}
-use borrow.Author.Needs.{needs}
 use lib.Pow.{pow-pos}
 use Rattle.lm_digits.specs.Parameters.{messageDigits}
 use Rattle.lm_digits.specs.Digits.{sum}

@@ -1,10 +1,8 @@
 -- The terms in order, then their number, then the leaders.
 -- Assumes nothing.
 use mathlib.Core.Path.{sym, _∙_}
-use native.Mathlib.Omega.{arith}
 use borrow.Author.Tests.{not-true, not-false, eq-eqb, ne-eqb}
 use Rattle.refusal.proofs.Laws.{passed, refused}
-use Rattle.submission.specs.Reading.{view}
 use Rattle.submission.specs.Validate.{ordered}
 use Rattle.validation.specs.Checked.{logChecks}
 use Rattle.validation.proofs.Facts.{records-in, asked-ordered, asked-count}

@@ -1,7 +1,6 @@
 -- A roster's refusal comes before the submission's.
 -- Assumes nothing.
 use mathlib.Core.Path.{sym, _∙_}
-use native.Mathlib.Omega.{arith}
 use borrow.Author.Needs.{needs}
 use Rattle.validation.proofs.Facts.{roster-refuses, roster-accepts}
 use Rattle.validation.proofs.checks.validate.Statement.{statement}

@@ -1,12 +1,12 @@
 -- The votes first, then stamps and receipts.
 -- Assumes nothing.
-use mathlib.Core.Path.{sym, ap, _∙_}
+use mathlib.Core.Path.{sym, _∙_}
 use borrow.Author.Tests.{not-true, not-false, eqb-true}
 use Rattle.submission.specs.Trailer.{leaderCount}
 use Rattle.submission.specs.Reading.{leadersFrom, stampsFrom, view}
 use Rattle.submission.specs.Validate.{oneEach}
 use Rattle.submission.proofs.Accepted.{length-certificates, length-stamps}
-use Rattle.validation.proofs.Facts.{leaders-in, leaders-quorate, one-each}
+use Rattle.validation.proofs.Facts.{leaders-in, leaders-quorate}
 use Rattle.validation.proofs.Fifteen.{parts, first-fails, first-holds}
 use Rattle.validation.proofs.signatures.all_good.Statement.{statement}
 use Rattle.validation.proofs.signatures.all_good.Tie as tie

@@ -1,15 +1,12 @@
 -- Without a commit certificate there are no receipts; with one, its pointer is kept on the way to the log's end.
 -- Assumes nothing.
-use mathlib.Core.Path.{refl, sym, ap, _∙_}
+use mathlib.Core.Path.{sym, _∙_}
 use native.Mathlib.Nat.{le-trans}
 use native.Mathlib.Omega.{arith}
 use borrow.Author.Needs.{needs}
 use borrow.Author.Tests.{not-true, not-false}
-use Prim.Native.Nat.{_≤_}
-use Rattle.submission.specs.Trailer.{recordCount, distance}
 use Rattle.submission.specs.Reading.{recordsOf, commitAt, view}
 use Rattle.layout.specs.Reader.{commitNumbersAt}
-use Rattle.layout.proofs.Inside.{commit-inside}
 use Rattle.layout.proofs.Commits.{absent-says, found-says}
 use Rattle.validation.proofs.Facts.{records-in, upto-in, commit-signers, commit-within, commit-end-in}
 use Rattle.validation.proofs.Fifteen.{first-fails, second-holds, no-receipts, with-receipts}

@@ -1,6 +1,5 @@
 -- The places and counts are the trailer's, and checks 9 to 13 say what the stamps ask for.
 -- Assumes nothing.
-use mathlib.Core.Path.{sym, _∙_}
 use native.Mathlib.Omega.{arith}
 use Rattle.submission.specs.View.{leads}
 use Rattle.submission.specs.Reading.{leadersFrom, view}
