@@ -5,28 +5,22 @@
  * bytes), all big-endian, then roster, first and second. A length that is too large takes what there
  * is. A mutation changes one of the parts and writes the lengths anew.
  *
- * Each part ends at an unreadable page, or begins after one, by the lowest bit of the report's
- * length; none can be written. The library has no counters of its own, so what leads the fuzzer on is
- * what the audit says: its number and place, and each replica's rule. Of a report these rules of
- * document 01 are checked: the bytes after it stay, a refusal has nothing but number and place, a
- * fork names somebody, a submission audited beside itself names nobody, and exchanging the
- * submissions keeps the fork and the replicas named.
+ * The parts are lent as parts.h says, by the lowest bits of the report's length. Number, report and
+ * the bytes after it have to be those of the separately written auditor. The library has no counters
+ * of its own, so what leads the fuzzer on is the auditor's branches, and what the audit says: its
+ * number and place, and each replica's rule. Of a report these rules of document 01 are checked by
+ * themselves besides: the bytes after it stay, a refusal has nothing but number and place, a fork
+ * names somebody, a submission audited beside itself names nobody, and exchanging the submissions
+ * keeps the fork and the replicas named.
  */
 #define _GNU_SOURCE
 #include "hirelog.h"
+#include "parts.h"
 
-#include <stdio.h>
-#include <stdlib.h>
-#include <string.h>
-#include <sys/mman.h>
-#include <unistd.h>
+enum { ROSTER, FIRST, SECOND };
+enum { HEAD = 8, REPORT_ROOM = 256 };
 
-enum { ROSTER, FIRST, SECOND, PARTS };
-enum { HEAD = 8, ROOM = 1 << 17, REPORT_ROOM = 256 };
-
-size_t LLVMFuzzerMutate(uint8_t *data, size_t size, size_t max_size);
-
-/* What libFuzzer counts as new beside the harness's own branches. */
+/* What libFuzzer counts as new beside the branches. */
 __attribute__((used, section("__libfuzzer_extra_counters"))) static volatile uint8_t
     seen[16 * 3 + 9 * 5];
 
@@ -35,20 +29,7 @@ struct input {
     size_t lens[PARTS], report_len;
 };
 
-static _Noreturn void fail(const char *what)
-{
-    fprintf(stderr, "audit_fuzz: %s\n", what);
-    abort();
-}
-
 /* ---- inputs */
-
-static size_t take(size_t wanted, size_t *left)
-{
-    size_t taken = wanted < *left ? wanted : *left;
-    *left -= taken;
-    return taken;
-}
 
 static int read_input(const uint8_t *data, size_t size, struct input *input)
 {
@@ -111,34 +92,24 @@ size_t LLVMFuzzerCustomMutator(uint8_t *data, size_t size, size_t max_size, unsi
 
 /* ---- a call */
 
-/* Bytes between two unreadable pages. */
-static uint8_t *room(void)
-{
-    size_t page = (size_t)sysconf(_SC_PAGESIZE);
-    uint8_t *all = mmap(NULL, ROOM + 2 * page, PROT_NONE, MAP_PRIVATE | MAP_ANONYMOUS, -1, 0);
-    if (all == MAP_FAILED)
-        fail("no memory");
-    return all + page;
-}
-
+/* The number and the report of both, which have to be the same. */
 static uint32_t call(const struct input *input, uint8_t report[REPORT_ROOM])
 {
-    static uint8_t *rooms[PARTS];
-    const uint8_t *at[PARTS];
-    for (int i = 0; i < PARTS; i++) {
-        if (!rooms[i])
-            rooms[i] = room();
-        if (input->lens[i] > ROOM)
-            fail("an input too large: run with -max_len");
-        uint8_t *copy = rooms[i] + (input->report_len % 2 == 0 ? ROOM - input->lens[i] : 0);
-        mprotect(rooms[i], ROOM, PROT_READ | PROT_WRITE);
-        memcpy(copy, input->parts[i], input->lens[i]);
-        mprotect(rooms[i], ROOM, PROT_READ);
-        at[i] = copy;
-    }
+    const uint8_t *lent[PARTS];
+    uint8_t expected[REPORT_ROOM];
+    lend(input->parts, input->lens, input->report_len, lent);
     memset(report, 0xa5, REPORT_ROOM);
-    return hirelog_audit(at[ROSTER], input->lens[ROSTER], at[FIRST], input->lens[FIRST], at[SECOND],
-                         input->lens[SECOND], report, input->report_len);
+    memset(expected, 0xa5, REPORT_ROOM);
+    uint32_t number =
+        hirelog_audit(lent[ROSTER], input->lens[ROSTER], lent[FIRST], input->lens[FIRST],
+                      lent[SECOND], input->lens[SECOND], report, input->report_len);
+    if (number != auditor_audit(input->parts[ROSTER], input->lens[ROSTER], input->parts[FIRST],
+                                input->lens[FIRST], input->parts[SECOND], input->lens[SECOND],
+                                expected, input->report_len))
+        fail("another number than the auditor's");
+    if (memcmp(report, expected, REPORT_ROOM) != 0)
+        fail("another report than the auditor's, or other bytes after it");
+    return number;
 }
 
 /* ---- what must hold */

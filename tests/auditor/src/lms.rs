@@ -88,6 +88,14 @@ pub fn check(key: &[u8], message: &[u8], signature: &[u8]) -> Verdict {
 
 /// RFC 8554, 5.4.2, algorithm 6; nothing where it returns INVALID before the last step.
 fn verify(key: &[u8], message: &[u8], signature: &[u8]) -> Option<bool> {
+    let candidate = candidate(key, message, signature)?;
+    // Step 4: the candidate root is the key's.
+    let root: Digest = array_at(key, 24)?;
+    Some(candidate == root)
+}
+
+/// The same algorithm's steps 1 to 3: the candidate root, to which the key's root is nothing.
+pub fn candidate(key: &[u8], message: &[u8], signature: &[u8]) -> Option<Digest> {
     // Steps 1 and 2: the parts of the key, and its exact length.
     let tree = tree_type(u32_at(key, 0)?)?;
     let one_time = one_time_type(u32_at(key, 4)?)?;
@@ -95,9 +103,8 @@ fn verify(key: &[u8], message: &[u8], signature: &[u8]) -> Option<bool> {
         return None;
     }
     let identifier: [u8; 16] = array_at(key, 8)?;
-    let root: Digest = array_at(key, 24)?;
-    // Steps 3 and 4: the candidate root is the key's.
-    Some(candidate_root(identifier, tree, one_time, message, signature)? == root)
+    // Step 3: the candidate root.
+    candidate_root(identifier, tree, one_time, message, signature)
 }
 
 /// RFC 8554, 5.4.2, algorithm 6a: the root that the signature leads to.

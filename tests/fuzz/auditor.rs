@@ -1,0 +1,102 @@
+//! The separately written auditor (tests/auditor) as C functions, which the harnesses beside this
+//! file compare the library with; tests/fuzz/run builds it.
+//!
+//! No pointer is NULL; each is to as many bytes as its length says, all readable, and those of a
+//! report or root writable and apart from the others.
+
+use auditor::audit::audit;
+use auditor::lms::{candidate, check, Verdict};
+use auditor::verdicts::Verdicts;
+use std::cell::RefCell;
+use std::slice::{from_raw_parts, from_raw_parts_mut};
+
+thread_local! {
+    /// The signature checks of earlier audits, for most signatures come again.
+    static VERDICTS: RefCell<Verdicts> = RefCell::default();
+}
+
+/// How many are kept: with more, they begin anew.
+const VERDICTS_KEPT: usize = 10_000;
+
+/// What hirelog_audit has to return, and to write.
+///
+/// # Safety
+/// As above.
+#[no_mangle]
+pub unsafe extern "C" fn auditor_audit(
+    roster: *const u8,
+    roster_len: usize,
+    first: *const u8,
+    first_len: usize,
+    second: *const u8,
+    second_len: usize,
+    report: *mut u8,
+    report_len: usize,
+) -> u32 {
+    VERDICTS.with_borrow_mut(|verdicts| {
+        if verdicts.made() > VERDICTS_KEPT {
+            *verdicts = Verdicts::default();
+        }
+        audit(
+            from_raw_parts(roster, roster_len),
+            from_raw_parts(first, first_len),
+            from_raw_parts(second, second_len),
+            from_raw_parts_mut(report, report_len),
+            verdicts,
+        )
+    })
+}
+
+/// What hirelog_lms_check has to return.
+///
+/// # Safety
+/// As above.
+#[no_mangle]
+pub unsafe extern "C" fn auditor_lms_check(
+    key: *const u8,
+    key_len: usize,
+    message: *const u8,
+    message_len: usize,
+    signature: *const u8,
+    signature_len: usize,
+) -> u32 {
+    let verdict = check(
+        from_raw_parts(key, key_len),
+        from_raw_parts(message, message_len),
+        from_raw_parts(signature, signature_len),
+    );
+    match verdict {
+        Verdict::Good => 0,
+        Verdict::Bad => 15,
+        Verdict::Long => 16,
+    }
+}
+
+/// Writes the root that the signature leads to, whatever the key's root is; 1, or 0 if it leads to
+/// none: then no root makes it good.
+///
+/// # Safety
+/// As above; a root is 32 bytes.
+#[no_mangle]
+pub unsafe extern "C" fn auditor_lms_root(
+    key: *const u8,
+    key_len: usize,
+    message: *const u8,
+    message_len: usize,
+    signature: *const u8,
+    signature_len: usize,
+    root: *mut u8,
+) -> u32 {
+    let found = candidate(
+        from_raw_parts(key, key_len),
+        from_raw_parts(message, message_len),
+        from_raw_parts(signature, signature_len),
+    );
+    match found {
+        Some(digest) => {
+            from_raw_parts_mut(root, digest.len()).copy_from_slice(&digest);
+            1
+        }
+        None => 0,
+    }
+}
