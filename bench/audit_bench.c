@@ -11,7 +11,7 @@
  *
  * In each round every implementation does its work once, one after the other, on one processor; the
  * least time over all rounds counts, of those in which the program was running. There are as many
- * rounds as make CHECKS checks, but 5 at least.
+ * rounds as make CHECKS checks, but 15 at least.
  */
 #define _GNU_SOURCE
 #include "child.h"
@@ -20,6 +20,8 @@
 #include "portable_lms.h"
 #include "slots.h"
 #include "timing.h"
+
+enum { ROUNDS_LEAST = 15 };
 
 struct pair {
     const char *folder;
@@ -122,8 +124,10 @@ static void compare(const struct pair *pair, uint8_t number, const struct child 
     const char *const names[ALL] = {
         "ours (hirelog_audit)", "its checks (hirelog_lms_check)", "portable C's checks",
         cpu_has_sha() ? "OpenSSL's, SHA instructions" : "OpenSSL's", "OpenSSL's without them"};
-    int rounds = checks / (int)pair->count < 5 ? 5 : checks / (int)pair->count;
+    int rounds = checks / (int)pair->count;
     double best[ALL]; /* nanoseconds */
+    if (rounds < ROUNDS_LEAST)
+        rounds = ROUNDS_LEAST;
     for (int round = 0; round < rounds; round++) {
         for (int i = 0; i < ALL; i++) {
             double ns;

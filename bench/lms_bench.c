@@ -9,6 +9,10 @@
  * Measured is the check of the files' first good signature of height 5 and digit width 8. In each
  * round every implementation checks it once, one after the other, on one processor; the least time
  * over all rounds counts. The portable one counts the blocks of SHA-256 that the check takes.
+ *
+ * The library checks by four lanes and has no check by one. In its place stands the time in which
+ * hirelog_sha256, which is scalar, hashes one message of just as many blocks, padding included: our
+ * scalar compressions alone, without what a check does between them.
  */
 #define _GNU_SOURCE
 #include "child.h"
@@ -25,6 +29,9 @@ typedef int check_function(const struct lms_vector *vector);
 static struct portable_lms_blocks blocks; /* of the last check by the portable implementation */
 
 static struct lms_vector measured;
+
+static uint8_t *long_message; /* as many blocks as measured takes, with the padding */
+static size_t long_message_len;
 
 static _Noreturn void stop(const char *why, const char *where)
 {
@@ -52,8 +59,16 @@ static int openssl(const struct lms_vector *v)
                             v->signature_len, &blocks);
 }
 
-enum { OURS, PORTABLE, OPENSSL, WITHOUT, ALL };
-static check_function *const checks[WITHOUT] = {ours, portable, openssl};
+/* No check: as many blocks by our scalar SHA-256. */
+static int scalar(const struct lms_vector *v)
+{
+    uint8_t digest[HIRELOG_DIGEST_SIZE];
+    (void)v;
+    return hirelog_sha256(long_message, long_message_len, digest) == HIRELOG_OK;
+}
+
+enum { OURS, SCALAR, PORTABLE, OPENSSL, WITHOUT, ALL };
+static check_function *const checks[WITHOUT] = {ours, scalar, portable, openssl};
 
 /* ---- the signatures */
 
@@ -69,6 +84,21 @@ static void try_vector(const struct lms_vector *vector)
         stop("a wrong answer over OpenSSL to ", vector->name);
     if (vector->good && measured.name[0] == '\0' && memcmp(vector->key, types, 8) == 0)
         measured = *vector;
+}
+
+/* Makes the message of as many blocks as measured takes; how many. Padding takes 9 bytes at least. */
+static uint64_t make_long_message(void)
+{
+    if (!portable(&measured))
+        stop("another answer than before to ", measured.name);
+    uint64_t count = blocks.message + blocks.chains + blocks.public_key + blocks.tree;
+    long_message_len = 64 * (size_t)count - 9;
+    long_message = malloc(long_message_len);
+    if (!long_message)
+        stop("no memory", "");
+    for (size_t i = 0; i < long_message_len; i++)
+        long_message[i] = (uint8_t)(i * 37);
+    return count;
 }
 
 /* ---- rounds */
@@ -111,6 +141,7 @@ int main(int argc, char **argv)
 
     struct child child;
     double best[ALL]; /* nanoseconds */
+    uint64_t count = make_long_message();
     stay();
     argv[1] = "--serve"; /* the child has the same files */
     if (!start_child(&child, argv))
@@ -128,18 +159,19 @@ int main(int argc, char **argv)
     }
     end_child(&child);
 
-    const char *const names[ALL] = {"ours (hirelog_lms_check)", "portable C",
+    const char *const names[ALL] = {"ours (hirelog_lms_check)",
+                                    "as many blocks by hirelog_sha256 (scalar)", "portable C",
                                     cpu_has_sha() ? "OpenSSL, SHA instructions" : "OpenSSL",
                                     "OpenSSL without them"};
-    uint64_t count = blocks.message + blocks.chains + blocks.public_key + blocks.tree;
     printf("Check of %s: height 5, digit width 8. Best of %d rounds.\n", measured.name, rounds);
     printf("Blocks of SHA-256: %" PRIu64 " (message %" PRIu64 ", chains %" PRIu64
            ", public key %" PRIu64 ", tree %" PRIu64 ").\n\n",
            count, blocks.message, blocks.chains, blocks.public_key, blocks.tree);
-    printf("%-30s %10s %10s %10s\n", "", "us/check", "ns/block", "ours/this");
+    printf("%-42s %10s %10s %10s\n", "", "us/check", "ns/block", "ours/this");
     for (int i = 0; i < ALL; i++)
-        printf("%-30s %10.1f %10.1f %10.2f\n", names[i], best[i] / 1e3, best[i] / (double)count,
+        printf("%-42s %10.1f %10.1f %10.2f\n", names[i], best[i] / 1e3, best[i] / (double)count,
                best[OURS] / best[i]);
     printf("\nratio to portable C: signature check %.2f\n", best[OURS] / best[PORTABLE]);
+    printf("ratio to as many blocks by hirelog_sha256 (scalar): %.2f\n", best[OURS] / best[SCALAR]);
     return 0;
 }
