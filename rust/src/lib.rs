@@ -3,7 +3,7 @@
 //! `include/hirelog.h` has each service's rules, and document 01 what they mean.
 
 mod report;
-mod sys;
+pub mod sys;
 
 pub use report::{read_report, Charge, Findings, Place, Refusal, Refused, REPLICAS, REPORT_SIZE};
 

@@ -1,4 +1,5 @@
-//! The functions of libhirelog.a, as include/hirelog.h declares them.
+//! The functions of libhirelog.a, as include/hirelog.h declares them, for callers with pointers of
+//! their own.
 
 pub const OK: u32 = 0;
 pub const LONG_MESSAGE: u32 = 16;

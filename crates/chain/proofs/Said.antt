@@ -9,11 +9,17 @@ use lib.ListN.{length, getD, replicate, length-append}
 use Rattle.words.specs.BigEndian.{be}
 use Rattle.words.proofs.Laws.{length-be, be-injective}
 use Rattle.sha256.specs.Sha256.{sha256}
-use Rattle.chain.specs.Log.{Form, version1, Record, chainString, pointerFrom, pointer}
-use Rattle.chain.specs.Claim.{Ballot, Claim, stamped, received, voted, place, ballotBytes, say, stringsOf}
+use Rattle.chain.specs.Log.{Form, version1, Record, chainString, chainStrings, pointerFrom, pointer}
+use Rattle.chain.specs.Claim.{Ballot, Claim, stamped, received, voted, place, ballotBytes, say}
 use Rattle.chain.specs.Apart.{Apart}
 use Rattle.chain.proofs.Fits.{PlaceFits, BallotFits, ClaimFits}
 use Rattle.chain.proofs.Injective.{field, length-two, length-digest, pointer-injective}
+
+-- the chain strings of the log that a claim speaks of
+unfoldable pub stringsOf : Form → Claim → List (List ℕ)
+stringsOf form (stamped term log) = chainStrings form log
+stringsOf form (received term log) = chainStrings form log
+stringsOf form (voted b) = []
 
 module _ (form : Form) where
   -- kind byte and fields, from the bytes

@@ -1,10 +1,10 @@
 -- What a signature stands on, and its bytes (document 01, "Chain and statements"). A claim has the log itself, the first
 -- records up to the index that it names; the pointer is computed only where its bytes are.
-use mathlib.Core.List.{List, [], _∷_, _++_}
+use mathlib.Core.List.{List, _∷_, _++_}
 use Prim.Native.Nat.{ℕ, _+_}
 use lib.ListN.{length}
 use Rattle.words.specs.BigEndian.{be}
-use Rattle.chain.specs.Log.{Form, Record, pointer, chainStrings}
+use Rattle.chain.specs.Log.{Form, Record, pointer}
 
 -- the fields of a vote
 pub record Ballot : Type 0 where
@@ -34,9 +34,3 @@ unfoldable pub say : Form → Claim → List ℕ
 say form (stamped term log) = form .firstKind ∷ form .cluster ++ place form term log
 say form (received term log) = (form .firstKind + 1) ∷ form .cluster ++ place form term log
 say form (voted b) = (form .firstKind + 2) ∷ form .cluster ++ ballotBytes form b
-
--- the chain strings of the log that a claim speaks of
-unfoldable pub stringsOf : Form → Claim → List (List ℕ)
-stringsOf form (stamped term log) = chainStrings form log
-stringsOf form (received term log) = chainStrings form log
-stringsOf form (voted b) = []

@@ -21,7 +21,7 @@ use Rattle.layout.specs.Reader.{numbersAt}
 use Rattle.leadership.proofs.Leads.{last-index-at}
 use Rattle.verification.proofs.Linked.{Linked, linked-runs, leadAt, leadsFrom, leads-first, TermsLeft, turn}
 use Rattle.findings.specs.declared.Tenure.{Tenure}
-use Rattle.findings.specs.Rules.{tenure, tenures}
+use Rattle.findings.proofs.Views.{tenure, tenures}
 use Rattle.findings.specs.Tenures.{endAt, tenureAt, tenuresAt, tenuresOf}
 
 -- ---- one term, as it is read

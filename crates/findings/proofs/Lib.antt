@@ -1,3 +1,4 @@
+pub mod Views
 pub mod Lowest
 pub mod Differ
 pub mod Says

@@ -25,7 +25,8 @@ use Rattle.submission.proofs.Accepted.{Sound}
 use Rattle.submission.proofs.Runs.{run-begins}
 use Rattle.forensics.specs.Findings.{says, charges, lowest, differAt}
 use Rattle.findings.specs.declared.Receipt.{Receipt}
-use Rattle.findings.specs.Rules.{tenure, tenures, receiptsBy, receipts, twoCandidates, twoLogs, forgotten, between, amongTerms, afterReceipts, ruled, least, ruledBy}
+use Rattle.findings.specs.Rules.{receiptsBy, receipts, twoCandidates, twoLogs, forgotten, between, amongTerms, afterReceipts, least, ruledBy}
+use Rattle.findings.proofs.Views.{tenure, tenures, ruled}
 use Rattle.findings.proofs.Lowest.{lowest-append, lowest-split, lowest-both}
 use Rattle.findings.proofs.Differ.{agree-take}
 use Rattle.findings.proofs.Says.{saidIf, vote, stamp, receipt, voter, stamper, voteBy, stampBy, receiptBy, says-slots}

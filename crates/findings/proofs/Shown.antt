@@ -20,7 +20,8 @@ use Rattle.layout.specs.Reader.{Bounds}
 use Rattle.layout.proofs.Inside.{bounds}
 use Rattle.findings.specs.declared.Receipts.{Receipts}
 use Rattle.findings.specs.declared.Row.{Row}
-use Rattle.findings.specs.Rules.{receipts, ruledBy, ruled, rowsBy, forkOf, chargeOf, findingsOf}
+use Rattle.findings.specs.Rules.{receipts, ruledBy, rowsBy, forkOf, chargeOf, findingsOf}
+use Rattle.findings.proofs.Views.{ruled}
 use Rattle.findings.specs.Tenures.{tenuresOf, read}
 use Rattle.findings.proofs.Boards.{rows-same}
 use Rattle.findings.proofs.Differ.{fork-ruled}

@@ -4,13 +4,13 @@ use mathlib.Core.List.{List, [], _∷_, _++_, map, flatMap}
 use mathlib.Core.Option.{Option, some, none}
 use Prim.Native.Nat.{ℕ, zero, suc}
 use lib.Dec.{eqb, leb, ltb}
-use lib.ListN.{length, take}
+use lib.ListN.{take}
 use Rattle.refusal.specs.Checks.{all}
 use Rattle.roster.specs.Masks.{signer}
 use Rattle.chain.specs.Log.{Record, lastTerm}
 use Rattle.replica.specs.Ends.{staler}
 use Rattle.replica.specs.Charges.{Charge, charge}
-use Rattle.submission.specs.View.{Commit, View, Lead, leads}
+use Rattle.submission.specs.View.{Commit, View}
 use Rattle.forensics.specs.Findings as forensics
 use Rattle.findings.specs.declared.Tenure.{Tenure}
 use Rattle.findings.specs.declared.Receipt.{Receipt}
@@ -19,23 +19,7 @@ use Rattle.findings.specs.declared.Receipts.the-variants.{Given, Absent}
 use Rattle.findings.specs.declared.Row.{Row}
 use Rattle.findings.specs.declared.Findings.{Findings}
 
--- ---- what the rules compare
-
-unfoldable pub tenure : Lead → Tenure
-tenure l =
-    let c = l .certificate in
-    let b = c .ballot in
-    record {
-      candidate = b .candidate;
-      term = b .term;
-      «last_term» = b .lastTerm;
-      «last_index» = b .lastIndex;
-      signers = c .signers;
-      end = length (l .term .upto);
-    }
-
-unfoldable pub tenures : View → List Tenure
-tenures v = map tenure (leads v)
+-- ---- the receipts of a submission
 
 unfoldable pub receiptsBy : Option Commit → List Record → Receipts
 receiptsBy none log = Absent
@@ -87,9 +71,6 @@ module _ (k : ℕ) where
 unfoldable pub ruledBy : ℕ → ℕ → List Tenure → List Tenure → Receipts → Receipts → List Charge
 ruledBy k difference xs ys first second =
     amongTerms k difference xs ys ++ afterReceipts k 3 first ys ++ afterReceipts k 4 second xs
-
-unfoldable pub ruled : ℕ → ℕ → View → View → List Charge
-ruled k difference a b = ruledBy k difference (tenures a) (tenures b) (receipts a) (receipts b)
 
 -- the rows of so many boards from board k on
 unfoldable pub rowsBy : (ℕ → Option Charge) → ℕ → ℕ → List (Option Charge)

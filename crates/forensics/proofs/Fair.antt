@@ -10,10 +10,10 @@ use borrow.Author.Tests.{eqb-true}
 use lib.Dec.{eqb}
 use Rattle.words.proofs.Members.{joined-empty, mem-cond}
 use Rattle.chain.specs.Log.{Form, chainStrings}
-use Rattle.chain.specs.Claim.{Claim, say, stringsOf}
+use Rattle.chain.specs.Claim.{Claim, say}
 use Rattle.chain.specs.Apart.{Apart}
 use Rattle.chain.proofs.Fits.{ClaimFits}
-use Rattle.chain.proofs.Said.{say-injective}
+use Rattle.chain.proofs.Said.{stringsOf, say-injective}
 use Rattle.replica.specs.Replica.{Act, first, keeps, signed, held}
 use Rattle.replica.specs.Charges.{NeverCharged, clash}
 use Rattle.replica.proofs.Honest.{never-charged}

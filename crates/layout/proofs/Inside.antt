@@ -12,7 +12,7 @@ use lib.ListN.{length}
 use Rattle.refusal.proofs.Laws.{all-cons}
 use Rattle.submission.specs.Trailer.{trailerSize, trailerAt, recordCount, leaderCount, distance}
 use Rattle.submission.specs.Reading.{recordSize, ballotSize, certificateEnd, certificatesEnd, commitEnd, leadersFrom, stampsFrom, commitFrom, laidOut}
-use Rattle.layout.specs.Reader.{signatureMost, Bounds, fieldsSize, commitFieldsSize}
+use Rattle.layout.specs.Reader.{signatureMost, Bounds, fieldsSize}
 use Rattle.submission.specs.Validate.{submissionMost, recordMost, leaderMost, sized, counted}
 
 -- ---- the bytes of signatures
@@ -36,7 +36,7 @@ module _ (S : ℕ) (s : List ℕ) where
   certificates-from (suc count) at =
       le-trans (omega (arith, certificate-fields at)) (certificates-from count (certificateEnd 4 S s at))
 
-  pub commit-fields : (at : ℕ) → at + commitFieldsSize ≤ commitEnd S s at
+  pub commit-fields : (at : ℕ) → at + 6 ≤ commitEnd S s at
   unfolding commitEnd
   commit-fields at = omega arith
 

@@ -32,12 +32,9 @@ pub record Bounds (S : ℕ) (s : List ℕ) : Type 0 where
   pub leaders : leaderCount s ≤ leaderMost
   pub signature : S ≤ signatureMost
 
--- the bytes of a leader certificate before its signatures, and of a commit certificate
+-- the bytes of a leader certificate before its signatures
 abbrev pub fieldsSize : ℕ
 fieldsSize = 48
-
-abbrev pub commitFieldsSize : ℕ
-commitFieldsSize = 6
 
 -- the numbers of the certificate at a place
 unfoldable pub numbersAt : List ℕ → ℕ → Certificate

@@ -13,7 +13,8 @@ use lib.ListN.{length, take, length-append, length-take}
 use Rattle.words.proofs.Laws.{pow-256-pos}
 use Rattle.refusal.proofs.Laws.{cond-true, all-cons}
 use Rattle.chain.specs.Log.{Form, Record, chainStrings}
-use Rattle.chain.specs.Claim.{Ballot, Claim, stringsOf}
+use Rattle.chain.specs.Claim.{Ballot, Claim}
+use Rattle.chain.proofs.Said.{stringsOf}
 use Rattle.chain.proofs.Fits.{LogFits, empty, more, PlaceFits, BallotFits, ClaimFits}
 use Rattle.chain.proofs.Prefix.{strings-take, fits-append, fits-take}
 use Rattle.replica.specs.Replica.{State, first, keeps, signed, held, Act, raise, vote, run, add, stamp, receipt, decline, restart, fitsTerm, fitsIndex, fitsRecords, rules, allowed, after, signs}

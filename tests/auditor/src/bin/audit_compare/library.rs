@@ -2,21 +2,9 @@
 
 use auditor::audit::{Charge, Findings};
 use auditor::cases::Case;
+use hirelog::sys::hirelog_audit;
 use hirelog::{Refused, REPORT_SIZE};
 use std::ptr;
-
-extern "C" {
-    fn hirelog_audit(
-        roster: *const u8,
-        roster_len: usize,
-        first: *const u8,
-        first_len: usize,
-        second: *const u8,
-        second_len: usize,
-        report: *mut u8,
-        report_len: usize,
-    ) -> u32;
-}
 
 /// Bytes kept after every report's buffer, to see that they stay as they were.
 const AFTER: usize = 64;

@@ -10,20 +10,9 @@ mod cases;
 
 use auditor::hex;
 use auditor::lms::{check, Verdict};
+use hirelog::sys::hirelog_lms_check;
 use std::time::{SystemTime, UNIX_EPOCH};
 use std::{env, process::exit, ptr};
-
-#[link(name = "hirelog", kind = "static")]
-extern "C" {
-    fn hirelog_lms_check(
-        key: *const u8,
-        key_len: usize,
-        message: *const u8,
-        message_len: usize,
-        signature: *const u8,
-        signature_len: usize,
-    ) -> u32;
-}
 
 const FIXED_SEED: u64 = 8554;
 
