@@ -26,21 +26,8 @@ pub lengths : (a b c d : List ℕ) (n : ℕ) → length a ≡ n → length b ≡
 unfolding pick
 lengths a b c d n p q r s = each _ p q r s
 
--- the window at the front of a list
-pub windowed : (l : Lane) (s : State) (p0 p1 p2 p3 : Pair) (rest : List Pair)
-    → lane l (p3 .a) ≡ s .a → lane l (p2 .a) ≡ s .b → lane l (p1 .a) ≡ s .c → lane l (p0 .a) ≡ s .d
-    → lane l (p3 .e) ≡ s .e → lane l (p2 .e) ≡ s .f → lane l (p1 .e) ≡ s .g → lane l (p0 .e) ≡ s .h
-    → windowAt l (p0 ∷ p1 ∷ p2 ∷ p3 ∷ rest) 0 ≡ s
-unfolding windowAt
-windowed l s p0 p1 p2 p3 rest a b c d e f g h =
-    λ k. record { a = a k; b = b k; c = c k; d = d k; e = e k; f = f k; g = g k; h = h k }
-
 -- the words of four lists at a place, side by side
 pub picked : (a b c d : List ℕ) (i : ℕ) (l : Lane)
     → lane l (getD a i 0, getD b i 0, getD c i 0, getD d i 0) ≡ getD (pick l a b c d) i 0
 unfolding lane pick
 picked a b c d i = each _ refl refl refl refl
-
-pub zero-lane : (l : Lane) → lane l (0, 0, 0, 0) ≡ 0
-unfolding lane pick
-zero-lane = each _ refl refl refl refl

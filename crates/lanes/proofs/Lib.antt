@@ -1,4 +1,4 @@
 pub mod Each
+pub mod Places
 mod Rotations
-mod Rows
 mod Turns

@@ -1,6 +1,8 @@
 -- Four words, four hash values or four blocks side by side, one in each lane.
-use mathlib.Core.List.{List, map}
-use Prim.Native.Nat.{ℕ, _+_}
+use mathlib.Core.Bool.{cond}
+use mathlib.Core.List.{List}
+use Prim.Native.Nat.{ℕ, _+_, _*_}
+use lib.Dec.{eqb}
 use lib.ListN.{getD}
 use Rattle.sha256.specs.declared.State.{State}
 use Rattle.lanes.specs.declared.Lanes.{Lanes}
@@ -24,10 +26,6 @@ pick fourth a b c d = d
 unfoldable pub lane : Lane → Lanes → ℕ
 lane l v = pick l (v .0) (v .1) (v .2) (v .3)
 
--- the words in a lane
-unfoldable pub row : Lane → List Lanes → List ℕ
-row l w = map (lane l) w
-
 -- the hash value in a lane
 unfoldable pub state : Lane → Four → State
 state l v = pick l (v .0) (v .1) (v .2) (v .3)
@@ -47,18 +45,31 @@ window l p3 p2 p1 p0 =
       h = lane l (p0 .e);
     }
 
--- the window that begins at place i of the values of a and e, from the oldest on
-unfoldable pub windowAt : Lane → List Pair → ℕ → State
-windowAt l x i =
-    let va : List ℕ = map (λ (p : Pair). lane l (p .a)) x in
-    let ve : List ℕ = map (λ (p : Pair). lane l (p .e)) x in
+-- the number of a lane
+unfoldable pub place : Lane → ℕ
+place first = 0
+place second = 1
+place third = 2
+place fourth = 3
+
+-- the word of a lane at place i of a list in which the words of the four lanes stand side by side
+unfoldable pub wordIn : Lane → List ℕ → ℕ → ℕ
+wordIn l w i = getD w (4 * i + place l) 0
+
+-- the working variables before round i, where v has a and e one after the other, from the oldest on
+unfoldable pub windowAt : (ℕ → ℕ) → ℕ → State
+windowAt v i =
     record {
-      a = getD va (i + 3) 0;
-      b = getD va (i + 2) 0;
-      c = getD va (i + 1) 0;
-      d = getD va i 0;
-      e = getD ve (i + 3) 0;
-      f = getD ve (i + 2) 0;
-      g = getD ve (i + 1) 0;
-      h = getD ve i 0;
+      a = v (2 * (i + 3));
+      b = v (2 * (i + 2));
+      c = v (2 * (i + 1));
+      d = v (2 * i);
+      e = v (2 * (i + 3) + 1);
+      f = v (2 * (i + 2) + 1);
+      g = v (2 * (i + 1) + 1);
+      h = v (2 * i + 1);
     }
+
+-- what stands at each place, where that at place i is made z
+unfoldable pub changed : {A : Type 0} → ℕ → A → (ℕ → A) → ℕ → A
+changed i z f k = cond (eqb k i) z (f k)

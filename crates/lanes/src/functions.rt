@@ -8,9 +8,7 @@ ghost use mathlib.Core.Path.{_≡_};
 ghost use Rattle.sha256.specs.Sha256 as fips;
 ghost use Rattle.sha256.specs.Sha256.{_⊞_, σ₀, σ₁};
 use sha256::State;
-use sha256_schedule::functions::add;
-use sha256_schedule::functions::choose;
-use sha256_schedule::functions::majority;
+use sha256_schedule::functions::add_four;
 
 fn big_sigma0(x: u32) -> u32
     ensures { λ r. ⌜ r ≡ fips.Σ₀ x ⌝ }
@@ -40,37 +38,12 @@ fn small_sigma1(x: u32) -> u32
 pub fn word(w16: u32, w15: u32, w7: u32, w2: u32) -> u32
     ensures { λ r. ⌜ r ≡ σ₁ w2 ⊞ w7 ⊞ σ₀ w15 ⊞ w16 ⌝ }
 {
-    add(add(add(small_sigma1(w2), w7), small_sigma0(w15)), w16)
-}
-
-// T1 and T2 of a round (6.2.2, step 3).
-fn temp1(s: State, k: u32, w: u32) -> u32
-    ensures { λ r. ⌜ r ≡ fips.temp₁ s k w ⌝ }
-{
-    let chosen = choose(s.e, s.f, s.g);
-    add(add(add(add(s.h, big_sigma1(s.e)), chosen), k), w)
-}
-
-fn temp2(s: State) -> u32
-    ensures { λ r. ⌜ r ≡ fips.temp₂ s ⌝ }
-{
-    add(big_sigma0(s.a), majority(s.a, s.b, s.c))
+    add_four(small_sigma1(w2), w7, small_sigma0(w15), w16)
 }
 
 // One round, with its constant and its word of the schedule.
 pub fn round(s: State, k: u32, w: u32) -> State
     ensures { λ r. ⌜ r ≡ fips.round s k w ⌝ }
 {
-    let t1 = temp1(s, k, w);
-    let t2 = temp2(s);
-    State {
-        a: add(t1, t2),
-        b: s.a,
-        c: s.b,
-        d: s.c,
-        e: add(s.d, t1),
-        f: s.e,
-        g: s.f,
-        h: s.g,
-    }
+    s.round_from(big_sigma0(s.a), big_sigma1(s.e), k, w)
 }

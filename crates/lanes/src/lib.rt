@@ -1,11 +1,13 @@
 // SHA-256 (FIPS 180-4) of four blocks side by side, in a shape from which the compiler forms vector
 // instructions.
 ghost use mathlib.Core.Path.{_≡_};
-ghost use Prim.Native.Nat.{_+_, _<_};
-ghost use lib.ListN.{take};
+ghost use Prim.Native.Nat.{ℕ, _+_, _-_, _*_, _≤_, _<_};
+ghost use mathlib.Core.List.{List};
+ghost use lib.ListN.{length, getD, take};
+ghost use Rattle.sha256_tables.specs.Constants.{constants};
 ghost use Rattle.sha256.specs.Sha256 as fips;
 ghost use Rattle.sha256.specs.Sha256.{_⊞_, σ₀, σ₁};
-ghost use Rattle.lanes.specs.Lane.{Lane, pick, lane, row, state, window, windowAt};
+ghost use Rattle.lanes.specs.Lane.{Lane, pick, lane, state, window, wordIn, windowAt, changed};
 
 mod functions;
 
@@ -93,89 +95,209 @@ fn states(p3: Pair, p2: Pair, p1: Pair, p0: Pair) -> Four
     )
 }
 
+// The words at place i of a list in which four stand side by side.
+fn at(w: &[u32], i: usize) -> Lanes
+    requires { ⌜ 4 * i + 4 ≤ length (now w) ⌝ }
+    ensures { λ r. ⌜ ((l : Lane) → lane l r ≡ wordIn l (now (w .entry)) i) ⌝ }
+{
+    let n = 4 * i;
+    Lanes(w[n], w[n + 1], w[n + 2], w[n + 3])
+}
+
+fn put(w: &mut [u32], i: usize, v: Lanes)
+    requires { ⌜ 4 * i + 4 ≤ length (now w) ⌝ }
+    ensures { λ _. ⌜ ((l : Lane) (k : ℕ) → wordIn l (now (w .exit)) k ≡ changed i (lane l v) (wordIn l (now (w .entry))) k) ⌝ }
+{
+    let n = 4 * i;
+    w[n] = v.0;
+    w[n + 1] = v.1;
+    w[n + 2] = v.2;
+    w[n + 3] = v.3;
+}
+
+// The values of a and e at place i of a list in which they stand one after the other.
+fn pair_at(x: &[u32], i: usize) -> Pair
+    requires { ⌜ 8 * i + 8 ≤ length (now x) ⌝ }
+    ensures { λ r. ⌜ ((l : Lane) → (lane l (r .a) ≡ wordIn l (now (x .entry)) (2 * i)) × (lane l (r .e) ≡ wordIn l (now (x .entry)) (2 * i + 1))) ⌝ }
+{
+    Pair {
+        a: at(x, 2 * i),
+        e: at(x, 2 * i + 1),
+    }
+}
+
+fn put_pair(x: &mut [u32], i: usize, p: Pair)
+    requires { ⌜ 8 * i + 8 ≤ length (now x) ⌝ }
+    ensures { λ _. ⌜ ((l : Lane) (k : ℕ) → wordIn l (now (x .exit)) k
+        ≡ changed (2 * i + 1) (lane l (p .e)) (changed (2 * i) (lane l (p .a)) (wordIn l (now (x .entry)))) k) ⌝ }
+{
+    put(x, 2 * i, p.a);
+    put(x, 2 * i + 1, p.e);
+}
+
 // One round in each lane: a and e after it.
-fn step(p3: Pair, p2: Pair, p1: Pair, p0: Pair, k: u32, w: Lanes) -> Pair
-    ensures { λ r. ⌜ ((l : Lane) → window l r p3 p2 p1 ≡ fips.round (window l p3 p2 p1 p0) k (lane l w)) ⌝ }
+fn step(p3: Pair, p2: Pair, p1: Pair, p0: Pair, k: Lanes, w: Lanes) -> Pair
+    ensures { λ r. ⌜ ((l : Lane) → window l r p3 p2 p1 ≡ fips.round (window l p3 p2 p1 p0) (lane l k) (lane l w)) ⌝ }
 {
     let s = states(p3, p2, p1, p0);
-    let r0 = round(s.0, k, w.0);
-    let r1 = round(s.1, k, w.1);
-    let r2 = round(s.2, k, w.2);
-    let r3 = round(s.3, k, w.3);
+    let r0 = round(s.0, k.0, w.0);
+    let r1 = round(s.1, k.1, w.1);
+    let r2 = round(s.2, k.2, w.2);
+    let r3 = round(s.3, k.3, w.3);
     Pair {
         a: Lanes(r0.a, r1.a, r2.a, r3.a),
         e: Lanes(r0.e, r1.e, r2.e, r3.e),
     }
 }
 
-// The first sixteen words of the schedule in each lane: those of its block.
-fn load(b0: [u32; 16], b1: [u32; 16], b2: [u32; 16], b3: [u32; 16]) -> [Lanes; 64]
-    ensures { λ r. ⌜ ((l : Lane) → take 16 (row l r) ≡ pick l b0 b1 b2 b3) ⌝ }
-{
-    let mut w = [Lanes(0, 0, 0, 0); 64];
-    let mut i = 0;
-    while i < 16 {
-        w[i] = Lanes(b0[i], b1[i], b2[i], b3[i]);
-        i += 1;
-    }
-    w
-}
-
-// The values of a and e that make up a hash value, the same in each lane, with room for those of
-// sixty-four rounds.
-fn start(s: State) -> [Pair; 68]
-    ensures { λ r. ⌜ ((l : Lane) → windowAt l r 0 ≡ s) ⌝ }
-{
-    let mut x = [Pair {
-        a: Lanes(0, 0, 0, 0),
-        e: Lanes(0, 0, 0, 0),
-    }; 68];
-    x[0] = Pair {
-        a: same(s.d),
-        e: same(s.h),
-    };
-    x[1] = Pair {
-        a: same(s.c),
-        e: same(s.g),
-    };
-    x[2] = Pair {
-        a: same(s.b),
-        e: same(s.f),
-    };
-    x[3] = Pair {
-        a: same(s.a),
-        e: same(s.e),
-    };
-    x
-}
-
-// The sixty-four rounds in each lane (FIPS 180-4, 6.2.2, steps 1 to 3).
-//
-// The speed of a signature check hangs on the shape of this loop. `step` is called from one place, so that
-// it is part of the loop. The two arrays are made here and read by a variable index. A loop of its own
-// for the schedule costs a twentieth, and with the word made after the round a fifth is lost
-// wherever the compiler puts a jump of the loop across 32 bytes.
-fn rounds(s: State, b0: [u32; 16], b1: [u32; 16], b2: [u32; 16], b3: [u32; 16]) -> Four
-    ensures { λ r. ⌜ ((l : Lane) → state l r ≡ fips.rounds 64 0 (fips.schedule (pick l b0 b1 b2 b3)) s) ⌝ }
+// The constants of the rounds (FIPS 180-4, 4.2.2), the same in each lane.
+pub fn table() -> [u32; 256]
+    ensures { λ r. ⌜ ((l : Lane) (i : ℕ) → i < 64 → wordIn l r i ≡ getD constants i 0) ⌝ }
 {
     let k = sha256_tables::K;
-    let mut w = load(b0, b1, b2, b3);
-    let mut x = start(s);
+    let mut r = [0u32; 256];
     let mut i = 0;
     while i < 64 {
-        if 16 <= i {
-            w[i] = mix(w[i - 16], w[i - 15], w[i - 7], w[i - 2]);
-        }
-        x[i + 4] = step(x[i + 3], x[i + 2], x[i + 1], x[i], k[i], w[i]);
+        put(&mut r, i, same(k[i]));
         i += 1;
     }
-    states(x[67], x[66], x[65], x[64])
+    r
 }
 
-// The hash value of each lane after its block, from the same hash value (FIPS 180-4, 6.2.2).
-pub fn absorb(s: State, b0: [u32; 16], b1: [u32; 16], b2: [u32; 16], b3: [u32; 16]) -> Four
+// Makes the words of four blocks the first sixteen of each lane's schedule.
+fn load(b0: [u32; 16], b1: [u32; 16], b2: [u32; 16], b3: [u32; 16], w: &mut [u32])
+    requires { ⌜ length (now w) ≡ 256 ⌝ }
+    ensures { λ _. ⌜ ((l : Lane) (i : ℕ) → i < 16 → wordIn l (now (w .exit)) i ≡ getD (pick l b0 b1 b2 b3) i 0) ⌝ }
+{
+    let mut i = 0;
+    while i < 16 {
+        put(w, i, Lanes(b0[i], b1[i], b2[i], b3[i]));
+        i += 1;
+    }
+}
+
+// Puts values of a and e, the same in each lane.
+fn put_same(x: &mut [u32], i: usize, a: u32, e: u32)
+    requires { ⌜ 8 * i + 8 ≤ length (now x) ⌝ }
+    ensures { λ _. ⌜ ((l : Lane) (k : ℕ) → wordIn l (now (x .exit)) k ≡ changed (2 * i + 1) e (changed (2 * i) a (wordIn l (now (x .entry)))) k) ⌝ }
+{
+    let p = Pair {
+        a: same(a),
+        e: same(e),
+    };
+    put_pair(x, i, p);
+}
+
+// Makes the working variables before round 5 the same in each lane.
+fn start(u: State, x: &mut [u32])
+    requires { ⌜ length (now x) ≡ 544 ⌝ }
+    ensures { λ _. ⌜ ((l : Lane) → windowAt (wordIn l (now (x .exit))) 5 ≡ u) ⌝ }
+{
+    put_same(x, 5, u.d, u.h);
+    put_same(x, 6, u.c, u.g);
+    put_same(x, 7, u.b, u.f);
+    put_same(x, 8, u.a, u.e);
+}
+
+// Makes blocks and working variables those that the rounds begin with.
+fn fill(
+    u: State,
+    b0: [u32; 16],
+    b1: [u32; 16],
+    b2: [u32; 16],
+    b3: [u32; 16],
+    w: &mut [u32],
+    x: &mut [u32],
+)
+    requires { ⌜ (length (now w) ≡ 256) × (length (now x) ≡ 544) ⌝ }
+    ensures { λ _. ⌜ ((l : Lane) → (length (pick l b0 b1 b2 b3) ≡ 16)
+        × ((i : ℕ) → i < 16 → wordIn l (now (w .exit)) i ≡ getD (pick l b0 b1 b2 b3) i 0)
+        × (windowAt (wordIn l (now (x .exit))) 5 ≡ u)) ⌝ }
+{
+    load(b0, b1, b2, b3, w);
+    start(u, x);
+}
+
+// Makes word i of each lane's schedule from those before it (FIPS 180-4, 6.2.2, step 1).
+fn word_at(w: &mut [u32], i: usize)
+    requires { ⌜ (16 ≤ i) × (4 * i + 4 ≤ length (now w)) ⌝ }
+    ensures { λ _. ⌜ ((l : Lane) (k : ℕ) → let v = wordIn l (now (w .entry)) in
+        wordIn l (now (w .exit)) k ≡ changed i (σ₁ (v (i - 2)) ⊞ v (i - 7) ⊞ σ₀ (v (i - 15)) ⊞ v (i - 16)) v k) ⌝ }
+{
+    let v = mix(at(w, i - 16), at(w, i - 15), at(w, i - 7), at(w, i - 2));
+    put(w, i, v);
+}
+
+// Round i of each lane (FIPS 180-4, 6.2.2, step 3). `x` has the values of a and e, from the oldest on: those of
+// the working variables before round i stand at i to i + 3.
+fn round_at(k: &[u32], w: &[u32], x: &mut [u32], i: usize)
+    requires { ⌜ (i < 64) × (length (now k) ≡ 256) × (length (now w) ≡ 256) × (length (now x) ≡ 544) ⌝ }
+    ensures { λ _. ⌜ ((l : Lane) → windowAt (wordIn l (now (x .exit))) (i + 1)
+        ≡ fips.round (windowAt (wordIn l (now (x .entry))) i) (wordIn l (now (k .entry)) i) (wordIn l (now (w .entry)) i)) ⌝ }
+{
+    let p0 = pair_at(x, i);
+    let p1 = pair_at(x, i + 1);
+    let p2 = pair_at(x, i + 2);
+    let p3 = pair_at(x, i + 3);
+    put_pair(x, i + 4, step(p3, p2, p1, p0, at(k, i), at(w, i)));
+}
+
+// Rounds 5 to 63 in each lane, of blocks that are the first sixteen words of `w` (FIPS 180-4, 6.2.2, steps 1 to 3).
+//
+// The speed of a signature check hangs on the shape of this loop. `step` and `round_at` are called from one
+// place, so that they are part of the loop. The arrays are read by a variable index. A loop of its own for
+// the schedule costs a twentieth, and with the word made after the round a fifth is lost wherever the
+// compiler puts a jump of the loop across 32 bytes.
+fn rounds(k: &[u32], w: &mut [u32], x: &mut [u32])
+    requires { ⌜ (length (now k) ≡ 256) × (length (now w) ≡ 256) × (length (now x) ≡ 544)
+        × ((l : Lane) (i : ℕ) → i < 64 → wordIn l (now k) i ≡ getD constants i 0) ⌝ }
+    ensures { λ _. ⌜ ((l : Lane) (m : List ℕ) → length m ≡ 16 → ((i : ℕ) → i < 16 → wordIn l (now (w .entry)) i ≡ getD m i 0)
+        → windowAt (wordIn l (now (x .exit))) 64 ≡ fips.rounds 59 5 (fips.schedule m) (windowAt (wordIn l (now (x .entry))) 5)) ⌝ }
+{
+    let mut i = 5;
+    while i < 64 {
+        if 16 <= i {
+            word_at(w, i);
+        }
+        round_at(k, w, x, i);
+        i += 1;
+    }
+}
+
+// The sums of the working variables after the last round and the hash value (FIPS 180-4, 6.2.2, step 4).
+fn sums(s: State, x: &[u32]) -> Four
+    requires { ⌜ length (now x) ≡ 544 ⌝ }
+    ensures { λ r. ⌜ ((l : Lane) → state l r ≡ fips.plus (windowAt (wordIn l (now (x .entry))) 64) s) ⌝ }
+{
+    let r = states(
+        pair_at(x, 67),
+        pair_at(x, 66),
+        pair_at(x, 65),
+        pair_at(x, 64),
+    );
+    Four(r.0.plus(s), r.1.plus(s), r.2.plus(s), r.3.plus(s))
+}
+
+// The hash value of each lane after its block, from the same hash value (FIPS 180-4, 6.2.2). The first five words
+// of the four blocks are the same, and `u` has what their rounds make of the working variables. `k` is the
+// table; `w` and `x` are room that is filled anew each time, lent so that it is not cleared each time.
+pub fn absorb(
+    s: State,
+    u: State,
+    b0: [u32; 16],
+    b1: [u32; 16],
+    b2: [u32; 16],
+    b3: [u32; 16],
+    k: &[u32],
+    w: &mut [u32],
+    x: &mut [u32],
+) -> Four
+    requires { ⌜ (length (now k) ≡ 256) × (length (now w) ≡ 256) × (length (now x) ≡ 544)
+        × ((l : Lane) (i : ℕ) → i < 64 → wordIn l (now k) i ≡ getD constants i 0)
+        × ((l : Lane) → u ≡ fips.rounds 5 0 (take 5 (pick l b0 b1 b2 b3)) s) ⌝ }
     ensures { λ r. ⌜ ((l : Lane) → state l r ≡ fips.compress s (pick l b0 b1 b2 b3)) ⌝ }
 {
-    let r = rounds(s, b0, b1, b2, b3);
-    Four(r.0.plus(s), r.1.plus(s), r.2.plus(s), r.3.plus(s))
+    fill(u, b0, b1, b2, b3, w, x);
+    rounds(k, w, x);
+    sums(s, x)
 }

@@ -55,7 +55,7 @@ pub fn with_checksum(q: [u8; 32], o: Parameters) -> [u8; 34]
 // The first digits of a byte string, one for each of as many chains.
 pub fn starts(s: &[u8], bits: u32, count: usize) -> [u32; 265]
     requires { ⌜ (bits * (8 / bits) ≡ 8) × (count ≤ 265) × ((i : ℕ) → i < count → i * bits / 8 < length (now s)) ⌝ }
-    ensures { λ r. ⌜ ((i : ℕ) → i < count → getD r i 0 ≡ coef bits (now (s .entry)) i) ⌝ }
+    ensures { λ r. ⌜ ((i : ℕ) → i < count → getD r i 0 ≡ coef bits (now (s .entry)) i) × ((i : ℕ) → getD r i 0 < 2 ^ bits) ⌝ }
 {
     let mut d = [0u32; 265];
     let mut i = 0;

@@ -1,4 +1,3 @@
 mod Buffers
-mod Passes
 pub mod Rows
-mod StepBlock
+mod Walks

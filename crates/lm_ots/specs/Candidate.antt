@@ -1,9 +1,9 @@
 -- The public key candidate of a one-time signature (RFC 8554, 4.6, algorithm 4b), over the parameters of the type.
 use mathlib.Core.List.{List, [], _++_}
-use Prim.Native.Nat.{ℕ, zero, suc, _+_, _-_, _*_, _^_}
+use Prim.Native.Nat.{ℕ, zero, suc, _-_, _*_, _^_}
 use lib.ListN.{take, drop}
-use Rattle.words.specs.BigEndian.{be}
 use Rattle.lm_hash.specs.Tagged.{tagged}
+use Rattle.lm_chain.specs.Chain.{chain}
 use Rattle.lm_digits.specs.declared.Parameters.{Parameters}
 use Rattle.lm_digits.specs.Digits.{coef, withChecksum}
 
@@ -13,11 +13,6 @@ D-PBLC = 0x8080
 
 unfoldable pub D-MESG : ℕ
 D-MESG = 0x8181
-
--- steps j, j + 1, .. of chain i, `count` of them: the inner loop of algorithm 4b, step 3
-unfoldable pub chain : List ℕ → ℕ → ℕ → ℕ → ℕ → List ℕ → List ℕ
-chain I q i zero j tmp = tmp
-chain I q i (suc count) j tmp = chain I q i count (suc j) (tagged I q i (be 1 j ++ tmp))
 
 module _ (o : Parameters) (I : List ℕ) (q : ℕ) where
   -- z[i] from y[i], where s is Q || Cksm(Q) and y is y[0] || .. || y[p-1]

@@ -1,4 +1,3 @@
 // LM-OTS one-time signatures (RFC 8554, section 4), over the digit width.
 pub mod candidate;
-mod chain;
 mod walk;

@@ -7,6 +7,7 @@ ghost use Rattle.words.specs.BigEndian.{be};
 ghost use Rattle.sha256_tables.specs.Constants.{constants};
 ghost use Rattle.sha256.specs.Sha256 as fips;
 use sha256_schedule::functions::add;
+use sha256_schedule::functions::add_four;
 use sha256_schedule::functions::big_sigma0;
 use sha256_schedule::functions::big_sigma1;
 use sha256_schedule::functions::choose;
@@ -43,27 +44,31 @@ impl State {
         }
     }
 
-    // T1 of a round (FIPS 180-4, 6.2.2, step 3).
-    fn temp1(self, k: u32, w: u32) -> u32
+    // T1 of a round (FIPS 180-4, 6.2.2, step 3), from Σ1(e).
+    fn temp1(self, sigma: u32, k: u32, w: u32) -> u32
+        requires { ⌜ sigma ≡ fips.Σ₁ (self .e) ⌝ }
         ensures { λ r. ⌜ r ≡ fips.temp₁ self k w ⌝ }
     {
         let chosen = choose(self.e, self.f, self.g);
-        add(add(add(add(self.h, big_sigma1(self.e)), chosen), k), w)
+        add(add_four(self.h, sigma, chosen, k), w)
     }
 
-    // T2 of a round.
-    fn temp2(self) -> u32
+    // T2 of a round, from Σ0(a).
+    fn temp2(self, sigma: u32) -> u32
+        requires { ⌜ sigma ≡ fips.Σ₀ (self .a) ⌝ }
         ensures { λ r. ⌜ r ≡ fips.temp₂ self ⌝ }
     {
-        add(big_sigma0(self.a), majority(self.a, self.b, self.c))
+        add(sigma, majority(self.a, self.b, self.c))
     }
 
-    // One round, with a constant and a word of the schedule.
-    fn round(self, k: u32, w: u32) -> State
+    // One round, with a constant and a word of the schedule, from Σ0(a) and Σ1(e), which more than one
+    // form of code computes.
+    pub fn round_from(self, sigma0: u32, sigma1: u32, k: u32, w: u32) -> State
+        requires { ⌜ (sigma0 ≡ fips.Σ₀ (self .a)) × (sigma1 ≡ fips.Σ₁ (self .e)) ⌝ }
         ensures { λ r. ⌜ r ≡ fips.round self k w ⌝ }
     {
-        let t1 = self.temp1(k, w);
-        let t2 = self.temp2();
+        let t1 = self.temp1(sigma1, k, w);
+        let t2 = self.temp2(sigma0);
         State {
             a: add(t1, t2),
             b: self.a,
@@ -74,6 +79,13 @@ impl State {
             g: self.f,
             h: self.g,
         }
+    }
+
+    // One round, with a constant and a word of the schedule.
+    pub fn round(self, k: u32, w: u32) -> State
+        ensures { λ r. ⌜ r ≡ fips.round self k w ⌝ }
+    {
+        self.round_from(big_sigma0(self.a), big_sigma1(self.e), k, w)
     }
 
     // The sums, field by field.

@@ -10,6 +10,13 @@ pub fn add(x: u32, y: u32) -> u32
     std::num::wrapping_add_u32(x, y)
 }
 
+// The sum of four words modulo 2^32.
+pub fn add_four(x: u32, y: u32, z: u32, w: u32) -> u32
+    ensures { λ r. ⌜ r ≡ x ⊞ y ⊞ z ⊞ w ⌝ }
+{
+    add(add(add(x, y), z), w)
+}
+
 // Each bit of y where x has a one, of z where x has a zero.
 pub fn choose(x: u32, y: u32, z: u32) -> u32
     ensures { λ r. ⌜ r ≡ ch x y z ⌝ }

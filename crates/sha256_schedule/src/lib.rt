@@ -8,7 +8,7 @@ ghost use Rattle.sha256_schedule.specs.Words.{_⊞_, σ₀, σ₁};
 
 pub mod functions;
 
-use functions::add;
+use functions::add_four;
 use functions::small_sigma0;
 use functions::small_sigma1;
 
@@ -16,7 +16,7 @@ use functions::small_sigma1;
 fn next(w16: u32, w15: u32, w7: u32, w2: u32) -> u32
     ensures { λ r. ⌜ r ≡ σ₁ w2 ⊞ w7 ⊞ σ₀ w15 ⊞ w16 ⌝ }
 {
-    add(add(add(small_sigma1(w2), w7), small_sigma0(w15)), w16)
+    add_four(small_sigma1(w2), w7, small_sigma0(w15), w16)
 }
 
 // The word at place t, after which one word more is the schedule's.

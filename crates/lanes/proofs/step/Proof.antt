@@ -15,10 +15,10 @@ returns c =
     let a = c .before .before .before .before .before .args in
     let s = c .before .before .before .before .states .ensures in
     each _
-    (moved _ _ (a .k) (a .w .0) (c .before .before .before .round .ensures ∙ ap (λ (v : State). round v (a .k) (a .w .0)) (s first)))
-    (moved _ _ (a .k) (a .w .1) (c .before .before .round2 .ensures ∙ ap (λ (v : State). round v (a .k) (a .w .1)) (s second)))
-    (moved _ _ (a .k) (a .w .2) (c .before .round3 .ensures ∙ ap (λ (v : State). round v (a .k) (a .w .2)) (s third)))
-    (moved _ _ (a .k) (a .w .3) (c .round4 .ensures ∙ ap (λ (v : State). round v (a .k) (a .w .3)) (s fourth)))
+    (moved _ _ (a .k .0) (a .w .0) (c .before .before .before .round .ensures ∙ ap (λ (v : State). round v (a .k .0) (a .w .0)) (s first)))
+    (moved _ _ (a .k .1) (a .w .1) (c .before .before .round2 .ensures ∙ ap (λ (v : State). round v (a .k .1) (a .w .1)) (s second)))
+    (moved _ _ (a .k .2) (a .w .2) (c .before .round3 .ensures ∙ ap (λ (v : State). round v (a .k .2) (a .w .2)) (s third)))
+    (moved _ _ (a .k .3) (a .w .3) (c .round4 .ensures ∙ ap (λ (v : State). round v (a .k .3) (a .w .3)) (s fourth)))
 
 pub step-spec : {M : Type 1} → statement M
 step-spec =

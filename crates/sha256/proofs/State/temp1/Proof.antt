@@ -9,22 +9,14 @@ returns : tie.Need-returns
 unfolding temp₁
 returns c =
     simp (
-      c .add4 .ensures,
-      c .before .add3 .ensures,
-      c .before .before .add2 .ensures,
-      c .before .before .before .add .ensures,
-      c .before .before .before .before .big-sigma1 .ensures,
-      c .before .before .before .before .before .choose .ensures,
+      c .add .ensures,
+      c .before .add-four .ensures,
+      c .before .before .choose .ensures,
+      c .before .before .before .pre,
     )
 
 pub temp1-spec : {M : Type 1} → statement M
-temp1-spec =
-    tie.close
-    (tie.spec
-    (λ c κs. search needs)
-    (λ c κs. search needs)
-    (λ c κs. search needs)
-    (λ c κs. search needs)
+temp1-spec = tie.close (tie.spec (λ c κs. search needs)
     (λ c κs. search needs)
     (λ c κs. search needs)
     returns)

@@ -11,11 +11,10 @@ returns c =
     simp (
       c .add .ensures,
       c .before .majority .ensures,
-      c .before .before .big-sigma0 .ensures,
+      c .before .before .pre,
     )
 
 pub temp2-spec : {M : Type 1} → statement M
 temp2-spec = tie.close (tie.spec (λ c κs. search needs)
-    (λ c κs. search needs)
     (λ c κs. search needs)
     returns)

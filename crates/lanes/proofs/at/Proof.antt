@@ -1,0 +1,34 @@
+-- The four words as they stand.
+-- Assumes nothing.
+use mathlib.Core.Path.{refl, ap}
+use mathlib.Core.Path.{sym}
+use native.Mathlib.Nat.{add-zero}
+use native.Mathlib.Omega.{arith}
+use Prim.Native.Nat.{ℕ, _*_}
+use lib.ListN.{getD}
+use Rattle.lanes.specs.Lane.{lane, pick, place, wordIn}
+use Rattle.lanes.proofs.Each.{each}
+use Rattle.lanes.proofs.at.Statement.{statement}
+use Rattle.lanes.proofs.at.Tie as tie
+
+returns : tie.Need-returns
+unfolding lane pick place wordIn
+returns c = each _ (rw add-zero) refl refl refl
+
+pub at-spec : {M : Type 1} → statement M
+at-spec =
+    tie.close
+    (tie.spec
+    (λ c. omega arith)
+    (λ c. omega arith)
+    (λ c. omega arith)
+    (λ c. omega arith)
+    (λ c. omega arith)
+    (λ c. omega arith)
+    (λ c. omega arith)
+    (λ c. omega arith)
+    (λ c. omega arith)
+    (λ c. omega arith)
+    (λ c. omega arith)
+    (λ c. omega arith)
+    returns)

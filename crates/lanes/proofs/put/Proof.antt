@@ -1,0 +1,29 @@
+-- The four words, one after the other.
+-- Assumes nothing.
+use native.Mathlib.Omega.{arith}
+use lib.ListN.{length-set}
+use Rattle.lanes.proofs.Places.{put-words}
+use Rattle.lanes.proofs.put.Statement.{statement}
+use Rattle.lanes.proofs.put.Tie as tie
+
+returns : tie.Need-returns
+returns c = let a = c .args in put-words (a .w .now) (a .i) (a .v) (c .pre)
+
+pub put-spec : {M : Type 1} → statement M
+put-spec =
+    tie.close
+    (tie.spec
+    (λ c. omega arith)
+    (λ c. omega arith)
+    (λ c. omega arith)
+    (λ c. omega arith)
+    (λ c. omega arith)
+    (λ c. simp length-set (omega arith))
+    (λ c. omega arith)
+    (λ c. omega arith)
+    (λ c. simp length-set (omega arith))
+    (λ c. omega arith)
+    (λ c. omega arith)
+    (λ c. simp length-set (omega arith))
+    (λ c. simp length-set)
+    returns)

@@ -1,0 +1,2 @@
+pub mod Chains
+mod StepBlock
