@@ -25,7 +25,7 @@ use Rattle.submission.proofs.Accepted.{length-certificates, length-stamps}
 use Rattle.submission.proofs.Fits.{length-records}
 use Rattle.submission.proofs.Slots.{quorate-facts}
 use Rattle.layout.proofs.Inside.{records-inside, leaders-inside, commit-inside}
-use Rattle.verification.specs.Signatures.{quorateAll}
+use Rattle.verification.specs.Votes.{quorateAll}
 use Rattle.validation.specs.Checked.{Laid, leaderChecks, logChecks, partChecks}
 
 module _ (roster : List ℕ) (S : ℕ) (s : List ℕ) where

@@ -9,7 +9,7 @@ use Rattle.roster.specs.Roster.{boards, rosterNumber}
 use Rattle.submission.specs.View.{leads, slots}
 use Rattle.submission.specs.Reading.{view, laidOut}
 use Rattle.submission.specs.Validate.{quorate, masks, ordered, oneEach, leading, within, genuine, formOf}
-use Rattle.layout.specs.Reader.{Bounds}
+use Rattle.layout.specs.Parts.{Bounds}
 
 module _ (roster : List ℕ) (S : ℕ) (s : List ℕ) where
   -- ---- what they leave

@@ -5,16 +5,10 @@ ghost use mathlib.Core.Bool.{cond};
 ghost use lib.Dec.{eqb};
 ghost use Rattle.refusal.specs.Checks.{refusal};
 ghost use Rattle.roster.specs.Roster.{rosterNumber};
-ghost use Rattle.layout.specs.Reader.{Bounds};
+ghost use Rattle.layout.specs.Parts.{Bounds};
 ghost use Rattle.submission.specs.Validate as paper;
 ghost use Rattle.validation.specs.Checked.{Laid, Counted, leaderChecks, logChecks, partChecks};
 use super::signatures;
-use layout::checks;
-use layout::parts;
-use layout::signers;
-use layout::trailer;
-use leadership::leaders;
-use leadership::terms;
 
 // 13 to 15.
 fn leader_number(roster: &[u8], s: &[u8], size: usize) -> u32
@@ -24,11 +18,11 @@ fn leader_number(roster: &[u8], s: &[u8], size: usize) -> u32
     let n = roster::boards(roster);
     let records = trailer::record_count(s);
     let count = trailer::leader_count(s);
-    let from = parts::leaders_from(s);
-    if !leaders::all_leading(s, n, size, records, count, from) {
+    let from = layout::leaders_from(s);
+    if !leadership::all_leading(s, n, size, records, count, from) {
         return 13;
     }
-    if !checks::within(s, size) {
+    if !commits::within(s, size) {
         return 14;
     }
     if !signatures::all_good(roster, s, size) {
@@ -57,7 +51,7 @@ fn part_number(roster: &[u8], s: &[u8], size: usize) -> u32
     requires { ⌜ (rosterNumber (now roster) ≡ 0) × Bounds size (now s) ⌝ }
     ensures { λ r. ⌜ r ≡ refusal (partChecks (now (roster .entry)) size (now (s .entry))) ⌝ }
 {
-    if !parts::laid_out(s, size) {
+    if !layout::laid_out(s, size) {
         return 9;
     }
     let n = roster::boards(roster);
@@ -72,16 +66,16 @@ pub fn number(roster: &[u8], s: &[u8]) -> u32
     requires { ⌜ rosterNumber (now roster) ≡ 0 ⌝ }
     ensures { λ r. ⌜ r ≡ paper.validate (now (roster .entry)) (now (s .entry)) ⌝ }
 {
-    if !checks::sized(s) {
+    if !trailer::sized(s) {
         return 5;
     }
-    if !checks::versioned(s) {
+    if !trailer::versioned(s) {
         return 6;
     }
-    if !checks::named(roster, s) {
+    if !trailer::named(roster, s) {
         return 7;
     }
-    if !checks::counted(s) {
+    if !trailer::counted(s) {
         return 8;
     }
     let size = roster::signature_size(roster);

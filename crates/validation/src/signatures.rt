@@ -11,14 +11,10 @@ ghost use Rattle.submission.specs.View.{leads, stampOf, receiptsOf, slots};
 ghost use Rattle.submission.specs.Reading.{recordsOf, view};
 ghost use Rattle.submission.specs.Validate.{genuine, formOf};
 ghost use Rattle.validation.specs.Checked.{Checked};
-use layout::parts;
-use layout::reader::CommitPart;
-use layout::trailer;
-use leadership::walk;
+use commits::CommitPart;
 use sha256::State;
 use verification::receipts;
-use verification::signatures;
-use verification::stamps;
+use verification::votes;
 
 // Whether the stamps are good, from the pointer of record i.
 fn stamps_good(roster: &[u8], s: &[u8], size: usize, i: usize, before: State) -> bool
@@ -26,10 +22,10 @@ fn stamps_good(roster: &[u8], s: &[u8], size: usize, i: usize, before: State) ->
     ensures { λ r. ⌜ r ≡ every (genuine (formOf (now (roster .entry))) (now (roster .entry))) (map (stampOf size) (leads (view 4 size (now (s .entry))))) ⌝ }
 {
     let records = trailer::record_count(s);
-    let end = walk::pointer_after(s, i, records, before);
+    let end = pointers::pointer_after(s, i, records, before);
     let leaders = trailer::leader_count(s);
-    let from = parts::leaders_from(s);
-    let stamps = parts::stamps_from(s);
+    let from = layout::leaders_from(s);
+    let stamps = layout::stamps_from(s);
     stamps::stamps_good(roster, s, size, records, leaders, from, stamps, end)
 }
 
@@ -40,11 +36,11 @@ fn places_good(roster: &[u8], s: &[u8], size: usize) -> bool
     ensures { λ r. ⌜ r ≡ cond (every (genuine (formOf (now (roster .entry))) (now (roster .entry))) (map (stampOf size) (leads (view 4 size (now (s .entry))))))
         (every (genuine (formOf (now (roster .entry))) (now (roster .entry))) (receiptsOf size (view 4 size (now (s .entry)) .commit) (view 4 size (now (s .entry)) .log))) false ⌝ }
 {
-    let CommitPart::Found(c, at) = parts::commit_part(s, size) else {
-        return stamps_good(roster, s, size, 0, walk::pointer_zero());
+    let CommitPart::Found(c, at) = commits::commit_part(s, size) else {
+        return stamps_good(roster, s, size, 0, pointers::pointer_zero());
     };
     let index = c.index as usize;
-    let pointer = walk::pointer_after(s, 0, index, walk::pointer_zero());
+    let pointer = pointers::pointer_after(s, 0, index, pointers::pointer_zero());
     if !stamps_good(roster, s, size, index, pointer) {
         return false;
     }
@@ -57,8 +53,8 @@ pub fn all_good(roster: &[u8], s: &[u8], size: usize) -> bool
     ensures { λ r. ⌜ r ≡ every (genuine (formOf (now (roster .entry))) (now (roster .entry))) (slots size (view 4 size (now (s .entry)))) ⌝ }
 {
     let leaders = trailer::leader_count(s);
-    let from = parts::leaders_from(s);
-    if !signatures::votes_good(roster, s, size, leaders, from) {
+    let from = layout::leaders_from(s);
+    if !votes::votes_good(roster, s, size, leaders, from) {
         return false;
     }
     places_good(roster, s, size)

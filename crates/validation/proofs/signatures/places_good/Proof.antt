@@ -6,8 +6,8 @@ use native.Mathlib.Omega.{arith}
 use borrow.Author.Needs.{needs}
 use borrow.Author.Tests.{not-true, not-false}
 use Rattle.submission.specs.Reading.{recordsOf, commitAt, view}
-use Rattle.layout.specs.Reader.{commitNumbersAt}
-use Rattle.layout.proofs.Commits.{absent-says, found-says}
+use Rattle.reader.specs.Reader.{commitNumbersAt}
+use Rattle.commits.proofs.Commits.{absent-says, found-says}
 use Rattle.validation.proofs.Facts.{records-in, upto-in, commit-signers, commit-within, commit-end-in}
 use Rattle.validation.proofs.Fifteen.{first-fails, second-holds, no-receipts, with-receipts}
 use Rattle.validation.proofs.signatures.places_good.Statement.{statement}
