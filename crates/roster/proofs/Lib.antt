@@ -1,5 +1,4 @@
 pub mod Quorums
 pub mod Accepted
-mod Answers
 mod Examples
 pub mod Masks

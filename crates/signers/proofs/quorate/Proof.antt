@@ -3,7 +3,7 @@
 use native.Mathlib.Omega.{arith}
 use borrow.Author.Tests.{le-leb, lt-leb}
 use lib.Count.{ones}
-use Rattle.lms.proofs.Nodes.{shifted-one}
+use Rattle.lm_format.proofs.Forms.{shifted-one}
 use Rattle.roster.specs.Roster.{quorum}
 use Rattle.refusal.proofs.Laws.{first-fails, first-holds, all-one}
 use Rattle.submission.specs.Validate.{quorate}
