@@ -15,7 +15,7 @@ use Rattle.lm_digits.specs.Parameters.{oneTime}
 use Rattle.lm_format.specs.declared.Height.the-variants.{Levels, Unknown}
 use Rattle.lm_format.specs.Format.{height, keySize, oneTimeBytes, signatureLength}
 use Rattle.lm_format.specs.Formed.{formed}
-use Rattle.lms.specs.declared.Answer.the-variants.{Good, Bad, Long}
+use Rattle.lm_answer.specs.declared.Answer.the-variants.{Good, Bad, Long}
 use Rattle.lms.specs.Check.{rootOf, verifies, typed, good, answer}
 
 -- ---- known types

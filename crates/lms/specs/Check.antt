@@ -15,8 +15,8 @@ use Rattle.lm_format.specs.declared.Height.{Height}
 use Rattle.lm_format.specs.declared.Height.the-variants.{Levels, Unknown}
 use Rattle.lm_format.specs.Format.{height, keySize, oneTimeBytes, pathAt, signatureLength}
 use Rattle.lm_ots.specs.Candidate.{candidate}
-use Rattle.lms.specs.declared.Answer.{Answer}
-use Rattle.lms.specs.declared.Answer.the-variants.{Good, Bad, Long}
+use Rattle.lm_answer.specs.declared.Answer.{Answer}
+use Rattle.lm_answer.specs.declared.Answer.the-variants.{Good, Bad, Long}
 use Rattle.lm_tree.specs.Tree.{root}
 
 module _ (o : Parameters) (h : ℕ) (key message signature : List ℕ) where
@@ -54,9 +54,3 @@ good key message signature =
 -- the service's answer: a long message comes before everything
 unfoldable pub answer : List ℕ → List ℕ → List ℕ → Answer
 answer key message signature = cond (tooLong message) Long (cond (good key message signature) Good Bad)
-
--- document 01's number of each answer
-abbrev pub answerNumber : Answer → ℕ
-answerNumber Good = 0
-answerNumber Bad = 15
-answerNumber Long = 16

@@ -8,17 +8,11 @@ ghost use Rattle.sha256.specs.Sha256.{bytesOf};
 ghost use Rattle.lm_digits.specs.Parameters.{Listed};
 ghost use Rattle.lm_format.specs.Format.{keySize, signatureLength};
 ghost use Rattle.lms.specs.Check as rfc;
+use lm_answer::Answer;
 use lm_digits::OneTime;
 use lm_digits::Parameters;
 use lm_format::Height;
 use sha256::State;
-
-// What the check says of a signature.
-pub enum Answer {
-    Good,
-    Bad,
-    Long,
-}
 
 // The root that a signature of the right length and leaf number leads to (RFC 8554, 5.4.2, algorithm 6a).
 fn root_of(o: Parameters, h: u32, key: &[u8], message: &[u8], signature: &[u8]) -> State
@@ -73,16 +67,5 @@ pub fn check(key: &[u8], message: &[u8], signature: &[u8]) -> Answer
         Answer::Good
     } else {
         Answer::Bad
-    }
-}
-
-// Document 01's number of an answer: 0 good, 15 bad, 16 long message.
-pub fn number_of(answer: Answer) -> u32
-    ensures { λ r. ⌜ r ≡ rfc.answerNumber answer ⌝ }
-{
-    match answer {
-        Answer::Good => 0,
-        Answer::Bad => 15,
-        Answer::Long => 16,
     }
 }

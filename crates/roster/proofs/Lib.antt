@@ -2,3 +2,4 @@ pub mod Quorums
 pub mod Accepted
 mod Examples
 pub mod Masks
+pub mod EveryBoard

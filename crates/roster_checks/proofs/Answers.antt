@@ -1,40 +1,16 @@
 -- The checks 2 to 4 one after the other: the first test that fails, or the last, gives the answer.
 -- Assumes nothing.
-use mathlib.Core.Path.{_≡_, sym, ap, _∙_}
-use mathlib.Core.Bool.{Bool, true, false, not, cond}
+use mathlib.Core.Path.{_≡_}
+use mathlib.Core.Bool.{true, false}
 use mathlib.Core.List.{List}
-use Prim.Native.Nat.{ℕ, suc, _+_, _-_, _*_, _≤_, _<_}
-use native.Mathlib.Omega.{arith}
-use borrow.Author.Tests.{not-true, not-false, le-leb, lt-leb, eq-eqb, ne-eqb}
+use Prim.Native.Nat.{ℕ, _+_, _*_, _≤_, _<_}
+use borrow.Author.Tests.{le-leb, lt-leb, eq-eqb, ne-eqb}
 use lib.Dec.{eqb}
 use lib.ListN.{length}
 use Rattle.refusal.specs.Checks.{all, check, refusal}
 use Rattle.refusal.proofs.Laws.{all-one}
 use Rattle.lm_format.specs.Format.{keySize}
 use Rattle.roster.specs.Roster.{headSize, boards, keyOf, treeType, oneTimeType, everyBoard, sized, typed, single, rosterNumber}
-
--- ---- every board
-
--- a loop over the boards that are left, whose answer is b: board `left` fails, or it does not, or none is left
-module _ (test : ℕ → Bool) (left : ℕ) {b : Bool} (rest : everyBoard left test ≡ b) where
-  module _ (more : 0 < left) {r : Bool} (asked : r ≡ test left) where
-    every-last : cond r (everyBoard (left - 1) test) false ≡ b
-    unfolding everyBoard
-    every-last =
-        let count : left ≡ suc (left - 1) = omega arith in
-        let last : everyBoard left test ≡ cond (test left) (everyBoard (left - 1) test) false =
-        ap (λ (n : ℕ). everyBoard n test) count ∙ rw (← count) in
-        rw asked (sym last ∙ rest)
-
-    pub fails : not r ≡ true → false ≡ b
-    fails e = rw (not-true r e) at every-last
-
-    pub next : not r ≡ false → everyBoard (left - 1) test ≡ b
-    next e = rw (not-false r e) at every-last
-
-  pub done : left ≤ 0 → true ≡ b
-  unfolding everyBoard
-  done h = let none : left ≡ 0 = omega arith in rw none at rest
 
 -- ---- 2
 

@@ -13,7 +13,7 @@ use lib.ListN.{length, take, drop}
 use lib.Seq.{drop-drop}
 use Rattle.refusal.specs.Checks.{every}
 use Rattle.sha256.specs.Service.{limit, tooLong}
-use Rattle.lms.specs.declared.Answer.the-variants.{Good, Bad, Long}
+use Rattle.lm_answer.specs.declared.Answer.the-variants.{Good, Bad, Long}
 use Rattle.lms.specs.Check.{good, answer}
 use Rattle.roster.specs.Roster.{keyOf}
 use Rattle.roster.specs.Masks.{boardsFrom, boardsOf}

@@ -9,7 +9,7 @@ ghost use Rattle.lms.specs.Check.{good};
 ghost use Rattle.roster.specs.Roster.{headSize, boards, keyOf, rosterNumber};
 ghost use Rattle.roster.specs.Masks.{boardsOf};
 ghost use Rattle.signatures.specs.Signatures.{goodAll};
-use lms::Answer;
+use lm_answer::Answer;
 
 // The bits of a mask.
 const MASK_BITS: usize = 16;

@@ -2,24 +2,25 @@
 -- Assumes nothing.
 use mathlib.Core.Path.{_≡_, refl, sym, ap, _∙_}
 use mathlib.Core.Bool.{Bool, true, false, not, cond}
-use mathlib.Core.List.{List}
-use Prim.Native.Nat.{ℕ, suc, _+_, _-_, _≤_, _<_}
+use mathlib.Core.List.{List, map}
+use Prim.Native.Nat.{ℕ, _+_, _-_, _≤_, _<_}
 use native.Mathlib.Omega.{arith}
 use borrow.Author.Tests.{not-true, not-false}
 use Rattle.refusal.specs.Checks.{every}
 use Rattle.refusal.proofs.Laws.{every-append}
-use Rattle.reader.specs.declared.Certificate.{Certificate}
+use Rattle.reader.specs.declared.Certificate.{Certificate as Numbers}
 use Rattle.reader.specs.declared.Reading.the-variants.{Read, Refused}
 use Rattle.reader.specs.declared.Commit.{Commit}
 use Rattle.commits.specs.declared.CommitPart.the-variants.{Found, Absent}
 use Rattle.submission.specs.Trailer.{leaderCount}
+use Rattle.submission.specs.View.{Certificate}
 use Rattle.submission.specs.Reading.{ballotSize, signersAt, certificateAt, certificateEnd, certificates, certificatesEnd, commitAt, leadersFrom, commitOf, view}
 use Rattle.reader.specs.Reader.{numbersAt, commitNumbersAt, reading}
 use Rattle.commits.specs.Commits.{commitPart}
 use Rattle.signers.specs.Signers.{leaderMasks}
 use Rattle.submission.specs.Validate.{quorate, commitSigners, masks}
 use Rattle.commits.proofs.Commits.{absent-says, found-says}
-use Rattle.submission.proofs.Certificates.{certificates-from, end-first}
+use Rattle.submission.proofs.Certificates.{certificates-from, certificates-first, end-first}
 use Rattle.reader.proofs.Readings.{refused-passes, read-says}
 
 -- ---- the leader certificates that are left, and whose answer is b
@@ -27,10 +28,9 @@ use Rattle.reader.proofs.Readings.{refused-passes, read-says}
 masks-first : (S : ℕ) (s : List ℕ) (n left at : ℕ) → 0 < left
     → every (quorate n) (leaderMasks S s left at)
     ≡ cond (quorate n (signersAt s (at + ballotSize 4))) (every (quorate n) (leaderMasks S s (left - 1) (certificateEnd 4 S s at))) false
-unfolding leaderMasks certificates certificateAt every
+unfolding leaderMasks certificateAt every
 masks-first S s n left at more =
-    let count : left ≡ suc (left - 1) = omega arith in
-    ap (λ (k : ℕ). every (quorate n) (leaderMasks S s k at)) count
+    ap (λ (cs : List Certificate). every (quorate n) (map (λ c. c .signers) cs)) (certificates-first 4 S s left at more)
 
 module _ (S : ℕ) (s : List ℕ) (n left at end : ℕ) {b : Bool} (rest : every (quorate n) (leaderMasks S s left at) ≡ b) where
   module _ (more : 0 < left) (inside : certificatesEnd 4 S s left at ≤ end) where
@@ -39,7 +39,7 @@ module _ (S : ℕ) (s : List ℕ) (n left at end : ℕ) {b : Bool} (rest : every
         let first = end-first 4 S s left at more in
         absurd (omega (arith, refused-passes S s at end e, certificates-from 4 S s (left - 1) (certificateEnd 4 S s at)))
 
-    module _ {c : Certificate} {next : ℕ} (told : reading S s at end ≡ Read c next) {r : Bool} (asked : r ≡ quorate n (c .signers)) where
+    module _ {c : Numbers} {next : ℕ} (told : reading S s at end ≡ Read c next) {r : Bool} (asked : r ≡ quorate n (c .signers)) where
       first-mask : cond r (every (quorate n) (leaderMasks S s (left - 1) next)) false ≡ b
       unfolding numbersAt
       first-mask =

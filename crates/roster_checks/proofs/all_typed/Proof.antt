@@ -4,7 +4,7 @@ use mathlib.Core.Path.{_≡_, refl}
 use Prim.Native.Nat.{_≤_}
 use native.Mathlib.Omega.{arith}
 use Rattle.roster.specs.Roster.{everyBoard, typed}
-use Rattle.roster_checks.proofs.Answers.{fails, next, done}
+use Rattle.roster.proofs.EveryBoard.{fails, next, done}
 use Rattle.roster_checks.proofs.all_typed.Statement.{statement}
 use Rattle.roster_checks.proofs.all_typed.Tie as tie
 

@@ -8,8 +8,8 @@ use Rattle.words.specs.BigEndian.{same}
 use Rattle.words.proofs.Same.{same-test}
 use Rattle.roster.specs.Roster.{keyOf}
 use borrow.Author.Needs.{needs}
-use Rattle.roster_checks.proofs.differ.Statement.{statement}
-use Rattle.roster_checks.proofs.differ.Tie as tie
+use Rattle.roster_keys.proofs.differ.Statement.{statement}
+use Rattle.roster_keys.proofs.differ.Tie as tie
 
 returns : tie.Need-returns
 returns c =

@@ -4,9 +4,9 @@ use mathlib.Core.Path.{_≡_, refl}
 use Prim.Native.Nat.{_≤_}
 use native.Mathlib.Omega.{arith}
 use Rattle.roster.specs.Roster.{everyBoard, single}
-use Rattle.roster_checks.proofs.Answers.{fails, next, done}
-use Rattle.roster_checks.proofs.all_single.Statement.{statement}
-use Rattle.roster_checks.proofs.all_single.Tie as tie
+use Rattle.roster.proofs.EveryBoard.{fails, next, done}
+use Rattle.roster_keys.proofs.all_single.Statement.{statement}
+use Rattle.roster_keys.proofs.all_single.Tie as tie
 
 abbrev Inv-loop : tie.InvT-loop
 Inv-loop roster n last₀ last = (last ≤ n) × (everyBoard last (single roster) ≡ everyBoard n (single roster))

@@ -7,9 +7,9 @@ use Prim.Native.Nat.{ℕ, _≤_, _-_}
 use native.Mathlib.Omega.{arith}
 use Rattle.words.specs.BigEndian.{same}
 use Rattle.roster.specs.Roster.{keyOf, everyBoard, single}
-use Rattle.roster_checks.proofs.Answers.{fails, next, done}
-use Rattle.roster_checks.proofs.single.Statement.{statement}
-use Rattle.roster_checks.proofs.single.Tie as tie
+use Rattle.roster.proofs.EveryBoard.{fails, next, done}
+use Rattle.roster_keys.proofs.single.Statement.{statement}
+use Rattle.roster_keys.proofs.single.Tie as tie
 
 -- board j's key is not k's
 abbrev other : List ℕ → ℕ → ℕ → Bool
