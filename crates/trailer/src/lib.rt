@@ -8,6 +8,16 @@ ghost use Rattle.submission.specs.Validate as rule;
 
 pub const TRAILER_SIZE: usize = 44;
 
+// The most bytes, records and terms.
+const SUBMISSION_MOST: usize = 2097152;
+
+const RECORD_MOST: usize = 4096;
+
+const LEADER_MOST: usize = 64;
+
+// The version of this paper.
+const VERSION: u32 = 1;
+
 // The trailer's first byte.
 pub fn trailer_at(s: &[u8]) -> usize
     requires { ⌜ paper.trailerSize ≤ length (now s) ⌝ }
@@ -55,18 +65,6 @@ pub fn version(s: &[u8]) -> u32
 {
     word(s, 6)
 }
-
-// ---- checks 5 to 8
-
-// The most bytes, records and terms.
-const SUBMISSION_MOST: usize = 2097152;
-
-const RECORD_MOST: usize = 4096;
-
-const LEADER_MOST: usize = 64;
-
-// The version of this paper.
-const VERSION: u32 = 1;
 
 // 5: whether there are 44 to 2,097,152 bytes.
 pub fn sized(s: &[u8]) -> bool
