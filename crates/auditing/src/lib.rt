@@ -8,7 +8,6 @@ ghost use Rattle.submission.specs.Validate.{viewOf};
 ghost use Rattle.forensics.specs.Findings.{findings};
 ghost use Rattle.report.specs.Report.{reportSize, reportBytes, auditNumber, reportAfter};
 ghost use Rattle.auditing.specs.Outcomes as paper;
-use validation::checks;
 
 // The bytes of a report.
 const REPORT_SIZE: usize = 53;
@@ -23,15 +22,15 @@ pub enum Outcome {
 pub fn validate(roster: &[u8], first: &[u8], second: &[u8]) -> Outcome
     ensures { λ r. ⌜ r ≡ paper.outcome (now (roster .entry)) (now (first .entry)) (now (second .entry)) ⌝ }
 {
-    let number = roster::validate(roster);
+    let number = roster_checks::validate(roster);
     if number != 0 {
         return Outcome::Refused(number, 0);
     }
-    let number_1 = checks::number(roster, first);
+    let number_1 = validation::number(roster, first);
     if number_1 != 0 {
         return Outcome::Refused(number_1, 1);
     }
-    let number_2 = checks::number(roster, second);
+    let number_2 = validation::number(roster, second);
     if number_2 != 0 {
         return Outcome::Refused(number_2, 2);
     }

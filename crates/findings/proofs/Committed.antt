@@ -13,10 +13,11 @@ use Rattle.submission.specs.Trailer.{recordCount}
 use Rattle.submission.specs.Reading.{recordSize, recordsOf, commitAt, view, laidOut}
 use Rattle.submission.specs.Validate.{within}
 use Rattle.submission.proofs.Fits.{length-records}
-use Rattle.layout.specs.declared.reader.Commit.{Commit}
-use Rattle.layout.specs.declared.reader.CommitPart.the-variants.{Found, Absent as NoPart}
-use Rattle.layout.specs.Reader.{commitNumbersAt, commitPart}
-use Rattle.layout.proofs.Commits.{absent-says, found-says}
+use Rattle.reader.specs.declared.Commit.{Commit}
+use Rattle.commits.specs.declared.CommitPart.the-variants.{Found, Absent as NoPart}
+use Rattle.reader.specs.Reader.{commitNumbersAt}
+use Rattle.commits.specs.Commits.{commitPart}
+use Rattle.commits.proofs.Commits.{absent-says, found-says}
 use Rattle.layout.proofs.Inside.{records-inside}
 use Rattle.verification.proofs.Said.{take-records}
 use Rattle.findings.specs.declared.Receipts.the-variants.{Given, Absent}

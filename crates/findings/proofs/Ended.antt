@@ -16,10 +16,10 @@ use Rattle.submission.specs.Reading.{recordsOf, certificateAt, certificateEnd, 
 use Rattle.submission.specs.Validate.{formOf, viewOf, oneEach}
 use Rattle.submission.proofs.Accepted.{Sound, length-certificates}
 use Rattle.submission.proofs.Fits.{length-records}
-use Rattle.layout.specs.declared.reader.Certificate.{Certificate as Numbers}
-use Rattle.layout.specs.Reader.{numbersAt}
+use Rattle.reader.specs.declared.Certificate.{Certificate as Numbers}
+use Rattle.reader.specs.Reader.{numbersAt}
 use Rattle.leadership.proofs.Leads.{last-index-at}
-use Rattle.verification.proofs.Linked.{Linked, linked-runs, leadAt, leadsFrom, leads-first, TermsLeft, turn}
+use Rattle.stamps.proofs.Linked.{Linked, linked-runs, leadAt, leadsFrom, leads-first, TermsLeft, turn}
 use Rattle.findings.specs.declared.Tenure.{Tenure}
 use Rattle.findings.proofs.Views.{tenure, tenures}
 use Rattle.findings.specs.Tenures.{endAt, tenureAt, tenuresAt, tenuresOf}

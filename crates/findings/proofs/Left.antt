@@ -11,8 +11,9 @@ use Rattle.replica.specs.Charges.{Charge}
 use Rattle.submission.specs.Trailer.{trailerAt, recordCount, leaderCount}
 use Rattle.submission.specs.Reading.{recordSize, certificateEnd, certificatesEnd, leadersFrom, laidOut}
 use Rattle.forensics.specs.Findings.{lowest}
-use Rattle.layout.proofs.Inside.{certificate-fields, certificates-from, leaders-inside}
-use Rattle.layout.proofs.Readings.{certificates-first}
+use Rattle.submission.proofs.Certificates.{certificates-from, end-first}
+use Rattle.reader.proofs.Readings.{certificate-fields}
+use Rattle.layout.proofs.Inside.{leaders-inside}
 use Rattle.findings.specs.declared.Tenure.{Tenure}
 use Rattle.findings.specs.Rules.{least}
 use Rattle.findings.specs.Tenures.{tenureAt, tenuresAt, tenuresOf}
@@ -42,17 +43,17 @@ module _ (S : ℕ) (s : List ℕ) where
 
       module _ (more : 0 < left) where
         rest-inside : certificatesEnd 4 S s (left - 1) (certificateEnd 4 S s at) ≤ trailerAt s
-        rest-inside = rw (certificates-first S s left at more) at (x .inside)
+        rest-inside = rw (end-first 4 S s left at more) at (x .inside)
 
         -- the first lies inside, and the fields of the one after it
         pub first-inside : at + 48 ≤ length s
-        first-inside = omega (arith, certificate-fields S s at, certificates-from S s (left - 1) (certificateEnd 4 S s at), rest-inside)
+        first-inside = omega (arith, certificate-fields S s at, certificates-from 4 S s (left - 1) (certificateEnd 4 S s at), rest-inside)
 
         pub next-inside : {next : ℕ} → next ≡ certificateEnd 4 S s at → 0 < left - 1 → next + 14 ≤ length s
         next-inside {next} e h =
             let inside : certificatesEnd 4 S s (left - 1) next ≤ trailerAt s = rw e rest-inside in
-            let rest = rw (certificates-first S s (left - 1) next h) at inside in
-            omega (arith, certificate-fields S s next, certificates-from S s (left - 1 - 1) (certificateEnd 4 S s next), rest)
+            let rest = rw (end-first 4 S s (left - 1) next h) at inside in
+            omega (arith, certificate-fields S s next, certificates-from 4 S s (left - 1 - 1) (certificateEnd 4 S s next), rest)
 
         -- one more is charged
         pub rows-next : {next : ℕ} {y : Tenure} {row best' : Option Charge} → next ≡ certificateEnd 4 S s at → y ≡ tenureAt s (left - 1) at next

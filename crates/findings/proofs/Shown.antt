@@ -16,7 +16,7 @@ use Rattle.submission.specs.Reading.{recordsOf, view, laidOut}
 use Rattle.submission.specs.Validate.{within, formOf, viewOf, validate}
 use Rattle.submission.proofs.Accepted.{Sound, validated}
 use Rattle.forensics.specs.Findings.{differAt, fork, charges, lowest, findings}
-use Rattle.layout.specs.Reader.{Bounds}
+use Rattle.layout.specs.Parts.{Bounds}
 use Rattle.layout.proofs.Inside.{bounds}
 use Rattle.findings.specs.declared.Receipts.{Receipts}
 use Rattle.findings.specs.declared.Row.{Row}

@@ -18,8 +18,8 @@ use Rattle.chain.specs.Log.{Record}
 use Rattle.replica.specs.Charges.{sameRecord}
 use Rattle.submission.specs.Reading.{recordSize, recordsOf}
 use Rattle.forensics.specs.Findings.{differAt}
-use Rattle.leadership.specs.Later.{recordsAfter}
-use Rattle.leadership.proofs.Records.{recordAt, record-bytes, after-first, after-last, after-all}
+use Rattle.terms.specs.Later.{recordsAfter}
+use Rattle.terms.proofs.Records.{recordAt, record-bytes, after-first, after-last, after-all}
 use Rattle.findings.proofs.Differ.{differ-nil, differ-next, differ-here}
 
 -- ---- two records

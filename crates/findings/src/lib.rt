@@ -6,10 +6,9 @@ ghost use Rattle.roster.specs.Roster.{signatureSize, rosterNumber};
 ghost use Rattle.submission.specs.Reading.{view, laidOut};
 ghost use Rattle.submission.specs.Validate.{within, viewOf, validate};
 ghost use Rattle.forensics.specs.Findings as forensics;
-ghost use Rattle.layout.specs.Reader.{Bounds};
+ghost use Rattle.layout.specs.Parts.{Bounds};
 ghost use Rattle.findings.specs.Rules as paper;
 ghost use Rattle.findings.specs.Tenures.{read};
-use layout::trailer;
 
 pub mod charges;
 pub mod logs;

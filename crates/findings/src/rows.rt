@@ -5,7 +5,7 @@ ghost use mathlib.Core.List.{map, flatMap};
 ghost use Prim.Native.Nat.{_<_};
 ghost use Rattle.submission.specs.Reading.{laidOut};
 ghost use Rattle.forensics.specs.Findings.{lowest};
-ghost use Rattle.layout.specs.Reader.{Bounds};
+ghost use Rattle.layout.specs.Parts.{Bounds};
 ghost use Rattle.findings.specs.Rules as paper;
 ghost use Rattle.findings.specs.Tenures.{tenuresOf};
 ghost use Rattle.findings.specs.declared.Receipts.the-variants.{Given};
@@ -15,9 +15,6 @@ use super::Row;
 use super::Tenure;
 use super::charges;
 use super::tenures;
-use layout::parts;
-use layout::reader;
-use layout::trailer;
 
 // The boards that have a row.
 const ROWS: usize = 9;
@@ -29,7 +26,7 @@ fn against(k: usize, difference: usize, x: Tenure, s: &[u8], size: usize) -> Row
 {
     let mut best = charges::unnamed();
     let mut left = trailer::leader_count(s);
-    let mut at = parts::leaders_from(s);
+    let mut at = layout::leaders_from(s);
     while 0 < left {
         let next = reader::certificate_end(s, at, size);
         let y = tenures::tenure_at(s, left - 1, at, next);
@@ -47,7 +44,7 @@ fn among_terms(k: usize, difference: usize, a: &[u8], b: &[u8], size: usize) -> 
 {
     let mut best = charges::unnamed();
     let mut left = trailer::leader_count(a);
-    let mut at = parts::leaders_from(a);
+    let mut at = layout::leaders_from(a);
     while 0 < left {
         let next = reader::certificate_end(a, at, size);
         let x = tenures::tenure_at(a, left - 1, at, next);
@@ -65,7 +62,7 @@ fn after_given(k: usize, rule: u8, given: Receipt, s: &[u8], size: usize) -> Row
 {
     let mut best = charges::unnamed();
     let mut left = trailer::leader_count(s);
-    let mut at = parts::leaders_from(s);
+    let mut at = layout::leaders_from(s);
     while 0 < left {
         let next = reader::certificate_end(s, at, size);
         let y = tenures::tenure_at(s, left - 1, at, next);

@@ -6,17 +6,14 @@ ghost use lib.ListN.{length};
 ghost use Rattle.submission.specs.Trailer.{trailerSize};
 ghost use Rattle.submission.specs.Reading.{view, laidOut};
 ghost use Rattle.submission.specs.Validate.{submissionMost, within};
-ghost use Rattle.layout.specs.Reader.{Bounds, fieldsSize};
+ghost use Rattle.reader.specs.Reader.{fieldsSize};
+ghost use Rattle.layout.specs.Parts.{Bounds};
 ghost use Rattle.findings.specs.Rules.{receipts};
 ghost use Rattle.findings.specs.Tenures as paper;
 use super::Receipt;
 use super::Receipts;
 use super::Tenure;
-use layout::parts;
-use layout::reader;
-use layout::reader::CommitPart;
-use layout::trailer;
-use leadership::terms;
+use commits::CommitPart;
 
 // Where a vote's last index stands among its fields.
 const LAST_INDEX_AT: usize = 10;
@@ -56,7 +53,7 @@ pub fn receipts_of(s: &[u8], size: usize) -> Receipts
         × (within (view 4 size (now s) .commit) (length (view 4 size (now s) .log)) ≡ true) ⌝ }
     ensures { λ r. ⌜ r ≡ receipts (view 4 size (now (s .entry))) ⌝ }
 {
-    let CommitPart::Found(c, _) = parts::commit_part(s, size) else {
+    let CommitPart::Found(c, _) = commits::commit_part(s, size) else {
         return Receipts::Absent;
     };
     let term = terms::last_term(s, c.index as usize);

@@ -1,7 +1,8 @@
 // The exported services, for C callers (include/hirelog.h has the rules).
 ghost use mathlib.Core.Path.{_≡_};
 ghost use Rattle.sha256.specs.Service.{digestNumber, digestAfter};
-ghost use Rattle.lms.specs.Check.{answer, answerNumber};
+ghost use Rattle.lm_answer.specs.Number.{answerNumber};
+ghost use Rattle.lms.specs.Check.{answer};
 ghost use Rattle.report.specs.Report.{auditNumber, reportAfter};
 ghost use Rattle.report.specs.Claims.{Naming, Fairness};
 
@@ -21,7 +22,7 @@ pub extern "C" fn hirelog_sha256(message: &[u8], digest: &mut [u8; 32]) -> u32
 pub extern "C" fn hirelog_lms_check(key: &[u8], message: &[u8], signature: &[u8]) -> u32
     ensures { λ r. ⌜ r ≡ answerNumber (answer (now (key .entry)) (now (message .entry)) (now (signature .entry))) ⌝ }
 {
-    lms::number_of(lms::check(key, message, signature))
+    lm_answer::number_of(lms::check(key, message, signature))
 }
 
 // The audit (document 01): the number, and the report in the buffer's first 53 bytes; with number 1, for a buffer below 53 bytes, nothing

@@ -1,44 +1,24 @@
--- Where the parts of a laid-out submission stand: a certificate begins before it ends, so that what ends inside lies inside.
+-- Where the parts of a laid-out submission stand, and that they lie inside.
 -- Assumes nothing.
 use mathlib.Core.Path.{_≡_}
 use mathlib.Core.Bool.{true}
 use mathlib.Core.List.{List}
-use Prim.Native.Nat.{ℕ, zero, suc, _+_, _-_, _*_, _≤_, _<_}
-use native.Mathlib.Nat.{mul-le-mul, le-refl, le-trans}
+use Prim.Native.Nat.{ℕ, _+_, _-_, _*_, _≤_}
+use native.Mathlib.Nat.{mul-le-mul}
 use native.Mathlib.Omega.{arith}
 use borrow.Author.Tests.{leb-true, eqb-true, ne-eqb}
-use lib.Count.{ones, ones-le}
 use lib.ListN.{length}
 use Rattle.refusal.proofs.Laws.{all-cons}
 use Rattle.submission.specs.Trailer.{trailerSize, trailerAt, recordCount, leaderCount, distance}
-use Rattle.submission.specs.Reading.{recordSize, ballotSize, certificateEnd, certificatesEnd, commitEnd, leadersFrom, stampsFrom, commitFrom, laidOut}
-use Rattle.layout.specs.Reader.{signatureMost, Bounds, fieldsSize}
+use Rattle.submission.specs.Reading.{recordSize, certificatesEnd, commitEnd, leadersFrom, stampsFrom, commitFrom, laidOut}
+use Rattle.reader.specs.Reader.{signatureMost}
+use Rattle.layout.specs.Parts.{Bounds}
 use Rattle.submission.specs.Validate.{submissionMost, recordMost, leaderMost, sized, counted}
 
--- ---- the bytes of signatures
-
-pub signatures-le : (S mask : ℕ) → S ≤ signatureMost → mask < 65536 → S * ones mask ≤ 16 * signatureMost
-signatures-le S mask few bits = mul-le-mul few (ones-le 16 mask bits)
+-- ---- the bytes of stamps
 
 pub stamps-le : (L S : ℕ) → L ≤ leaderMost → S ≤ signatureMost → L * S ≤ leaderMost * signatureMost
 stamps-le L S few small = mul-le-mul few small
-
--- ---- one certificate, and so many
-
-module _ (S : ℕ) (s : List ℕ) where
-  pub certificate-fields : (at : ℕ) → at + fieldsSize ≤ certificateEnd 4 S s at
-  unfolding certificateEnd ballotSize
-  certificate-fields at = omega arith
-
-  pub certificates-from : (count at : ℕ) → at ≤ certificatesEnd 4 S s count at
-  unfolding certificatesEnd
-  certificates-from zero at = le-refl at
-  certificates-from (suc count) at =
-      le-trans (omega (arith, certificate-fields at)) (certificates-from count (certificateEnd 4 S s at))
-
-  pub commit-fields : (at : ℕ) → at + 6 ≤ commitEnd S s at
-  unfolding commitEnd
-  commit-fields at = omega arith
 
 -- ---- checks 5 and 8
 

@@ -11,7 +11,7 @@ use Rattle.refusal.specs.Checks.{all}
 use Rattle.refusal.proofs.Laws.{first-fails, first-holds, all-one}
 use Rattle.submission.specs.Trailer.{trailerAt, leaderCount, distance}
 use Rattle.submission.specs.Reading.{certificatesEnd, commitEnd, leadersFrom, stampsFrom, commitFrom, laidOut}
-use Rattle.layout.specs.Reader.{commitTests, leaderTests}
+use Rattle.layout.specs.Parts.{commitTests, leaderTests}
 
 module _ (S : ℕ) (s : List ℕ) (at : ℕ) where
   -- ---- part 4 at a place

@@ -1,5 +1,2 @@
-pub mod Records
-pub mod Walks
-pub mod Rising
 pub mod Leads
 pub mod LeadWalk

@@ -135,6 +135,10 @@ unfolding oneTime row
 known-width number =
     each-known (λ p. p .bits * (8 / p .bits) ≡ 8) number refl refl refl refl
 
+pub known-few : (number : ℕ) {o : Parameters} → oneTime number ≡ Known o → o .chains ≤ 265
+unfolding oneTime row
+known-few number = each-known (λ p. p .chains ≤ 265) number (lit≤ tt) (lit≤ tt) (lit≤ tt) (lit≤ tt)
+
 -- ---- RFC 8554, 3.1.3: the digits of 0x1234
 
 pub digit-1 : coef 1 (0x12 ∷ 0x34 ∷ []) 7 ≡ 0

@@ -5,24 +5,22 @@ use mathlib.Core.List.{List, [], _++_}
 use Prim.Native.Nat.{ℕ, zero, suc, _+_, _*_, _/_, _%_, _^_, _≤_, _<_}
 use native.Mathlib.Numerals.{add-one}
 use native.Mathlib.Omega.{arith}
-use lib.Dec.{lit≤}
 use lib.ListN.{length, take}
 use lib.Seq.{sets}
 use Rattle.words.proofs.Laws.{take-sets}
 use Rattle.lm_digits.specs.declared.Parameters.{Parameters}
-use Rattle.lm_digits.specs.Parameters.{row, oneTime, Listed}
+use Rattle.lm_digits.specs.Parameters.{Listed}
 use Rattle.lm_ots.specs.Candidate.{end, ends}
 use Rattle.lm_ots.specs.Values.{valueAt}
 use Rattle.lm_digits.proofs.Widths.{width-le, pow-le, shifted-one}
-use Rattle.lm_digits.proofs.Figures.{each-known, known-width, known-follows, shift-lt, chain-digit}
+use Rattle.lm_digits.proofs.Figures.{known-few, known-width, known-follows, shift-lt, chain-digit}
 
 module _ (o : Parameters) (l : Listed o) where
   pub width : o .bits * (8 / o .bits) ≡ 8
   width = known-width (l .number) (l .found)
 
   pub few : o .chains ≤ 265
-  unfolding oneTime row
-  few = each-known (λ p. p .chains ≤ 265) (l .number) (lit≤ tt) (lit≤ tt) (lit≤ tt) (lit≤ tt) (l .found)
+  few = known-few (l .number) (l .found)
 
   pub shift-below : o .shift < 32
   shift-below = shift-lt o width (known-follows (l .number) (l .found))

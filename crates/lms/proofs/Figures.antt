@@ -4,7 +4,7 @@ use mathlib.Core.Path.{_≡_, refl}
 use Prim.Native.Nat.{ℕ, _+_, _*_}
 use Rattle.lm_digits.specs.Parameters.{row, messageDigits}
 use Rattle.lm_digits.specs.Digits.{coef, sum, checksum}
-use Rattle.lms.specs.Check.{oneTimeBytes, pathAt, signatureLength}
+use Rattle.lm_format.specs.Format.{oneTimeBytes, pathAt, signatureLength}
 use Rattle.lms.specs.Figures.{figure, AllHold, signatureFigures}
 
 pub signature-figures : AllHold signatureFigures

@@ -1,3 +1,2 @@
 mod Answers
 pub mod Figures
-pub mod Nodes

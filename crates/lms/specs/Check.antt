@@ -2,7 +2,7 @@
 -- "Digest and signature").
 use mathlib.Core.Bool.{Bool, false, cond}
 use mathlib.Core.List.{List}
-use Prim.Native.Nat.{ℕ, _+_, _*_, _^_}
+use Prim.Native.Nat.{ℕ, _+_, _^_}
 use lib.Dec.{eqb, ltb}
 use lib.ListN.{length, take, drop}
 use Rattle.words.specs.BigEndian.{numberAt, same}
@@ -11,28 +11,13 @@ use Rattle.lm_digits.specs.declared.Parameters.{Parameters}
 use Rattle.lm_digits.specs.declared.OneTime.{OneTime}
 use Rattle.lm_digits.specs.declared.OneTime.the-variants.{Known, Unknown as NoType}
 use Rattle.lm_digits.specs.Parameters.{oneTime}
+use Rattle.lm_format.specs.declared.Height.{Height}
+use Rattle.lm_format.specs.declared.Height.the-variants.{Levels, Unknown}
+use Rattle.lm_format.specs.Format.{height, keySize, oneTimeBytes, pathAt, signatureLength}
 use Rattle.lm_ots.specs.Candidate.{candidate}
-use Rattle.lms.specs.declared.Height.{Height}
-use Rattle.lms.specs.declared.Height.the-variants.{Levels, Unknown}
-use Rattle.lms.specs.declared.Answer.{Answer}
-use Rattle.lms.specs.declared.Answer.the-variants.{Good, Bad, Long}
-use Rattle.lms.specs.Tree.{height, root}
-
--- 5.3: the bytes of a key: two types, I, T[1]
-abbrev pub keySize : ℕ
-keySize = 56
-
--- bytes of a one-time signature after its type: C and y[0] to y[p-1]
-unfoldable pub oneTimeBytes : Parameters → ℕ
-oneTimeBytes o = 32 * (o .chains + 1)
-
--- where the path begins in a signature: after q and the one-time type, C and y, and the tree type
-unfoldable pub pathAt : Parameters → ℕ
-pathAt o = 8 + oneTimeBytes o + 4
-
--- S: the bytes of a signature of a height
-unfoldable pub signatureLength : Parameters → ℕ → ℕ
-signatureLength o h = pathAt o + 32 * h
+use Rattle.lm_answer.specs.declared.Answer.{Answer}
+use Rattle.lm_answer.specs.declared.Answer.the-variants.{Good, Bad, Long}
+use Rattle.lm_tree.specs.Tree.{root}
 
 module _ (o : Parameters) (h : ℕ) (key message signature : List ℕ) where
   -- algorithm 6a, steps 2 to 5: Tc
@@ -69,9 +54,3 @@ good key message signature =
 -- the service's answer: a long message comes before everything
 unfoldable pub answer : List ℕ → List ℕ → List ℕ → Answer
 answer key message signature = cond (tooLong message) Long (cond (good key message signature) Good Bad)
-
--- document 01's number of each answer
-abbrev pub answerNumber : Answer → ℕ
-answerNumber Good = 0
-answerNumber Bad = 15
-answerNumber Long = 16

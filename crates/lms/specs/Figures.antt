@@ -6,7 +6,7 @@ use Prim.Native.Nat.{ℕ}
 use lib.ListN.{replicate}
 use Rattle.lm_digits.specs.Parameters.{row}
 use Rattle.lm_digits.specs.Digits.{checksum}
-use Rattle.lms.specs.Check.{signatureLength}
+use Rattle.lm_format.specs.Format.{signatureLength}
 
 pub record Figure : Type 0 where
   pub computed : ℕ

@@ -6,61 +6,30 @@ ghost use Rattle.words.specs.BigEndian.{numberAt, same};
 ghost use Rattle.sha256.specs.Service.{limit};
 ghost use Rattle.sha256.specs.Sha256.{bytesOf};
 ghost use Rattle.lm_digits.specs.Parameters.{Listed};
-ghost use Rattle.lms.specs.Tree.{height};
+ghost use Rattle.lm_format.specs.Format.{keySize, signatureLength};
 ghost use Rattle.lms.specs.Check as rfc;
-
-mod tree;
-
+use lm_answer::Answer;
 use lm_digits::OneTime;
 use lm_digits::Parameters;
+use lm_format::Height;
 use sha256::State;
-
-// The bytes of a key (RFC 8554, 5.3).
-pub const KEY_SIZE: usize = 56;
-
-// The height of a tree type.
-pub enum Height {
-    Levels(u32),
-    Unknown,
-}
-
-// What the check says of a signature.
-pub enum Answer {
-    Good,
-    Bad,
-    Long,
-}
-
-// The height of a type number.
-pub fn height_of(number: u32) -> Height
-    ensures { λ r. ⌜ r ≡ height number ⌝ }
-{
-    match number {
-        5 => Height::Levels(5),
-        6 => Height::Levels(10),
-        7 => Height::Levels(15),
-        8 => Height::Levels(20),
-        9 => Height::Levels(25),
-        _ => Height::Unknown,
-    }
-}
 
 // The root that a signature of the right length and leaf number leads to (RFC 8554, 5.4.2, algorithm 6a).
 fn root_of(o: Parameters, h: u32, key: &[u8], message: &[u8], signature: &[u8]) -> State
-    requires { ⌜ Listed o × (h ≤ 25) × (length (now key) ≡ rfc.keySize) × (length (now message) ≤ limit)
-        × (length (now signature) ≡ rfc.signatureLength o h) × (numberAt 4 (now signature) 0 < 2 ^ h) ⌝ }
+    requires { ⌜ Listed o × (h ≤ 25) × (length (now key) ≡ keySize) × (length (now message) ≤ limit)
+        × (length (now signature) ≡ signatureLength o h) × (numberAt 4 (now signature) 0 < 2 ^ h) ⌝ }
     ensures { λ r. ⌜ bytesOf r ≡ rfc.rootOf o h (now (key .entry)) (now (message .entry)) (now (signature .entry)) ⌝ }
 {
     let leaf = lm_hash::leaf_at(key, 8, words::u32_at(signature, 0));
     let end = 8 + 32 * (o.chains + 1);
     let path = end + 4;
     let candidate = lm_ots::candidate::candidate(leaf, o, message, &signature[8..end]);
-    tree::root(leaf, h, candidate, &signature[path..])
+    lm_tree::root(leaf, h, candidate, &signature[path..])
 }
 
 // Whether the root's bytes are the key's.
 fn matches(root: State, key: &[u8]) -> bool
-    requires { ⌜ length (now key) ≡ rfc.keySize ⌝ }
+    requires { ⌜ length (now key) ≡ keySize ⌝ }
     ensures { λ r. ⌜ r ≡ same (bytesOf root) (drop 24 (now (key .entry))) ⌝ }
 {
     let bytes = root.bytes();
@@ -69,20 +38,10 @@ fn matches(root: State, key: &[u8]) -> bool
 
 // Whether a signature verifies under a key of known types (RFC 8554, 5.4.2, algorithms 6 and 6a).
 fn verify(o: Parameters, h: u32, key: &[u8], message: &[u8], signature: &[u8]) -> bool
-    requires { ⌜ Listed o × (h ≤ 25) × (length (now key) ≡ rfc.keySize) × (length (now message) ≤ limit) ⌝ }
+    requires { ⌜ Listed o × (h ≤ 25) × (length (now key) ≡ keySize) × (length (now message) ≤ limit) ⌝ }
     ensures { λ r. ⌜ r ≡ rfc.verifies o h (now (key .entry)) (now (message .entry)) (now (signature .entry)) ⌝ }
 {
-    let end = 8 + 32 * (o.chains + 1);
-    if signature.len() != end + 4 + 32 * (h as usize) {
-        return false;
-    }
-    if words::u32_at(signature, 4) != words::u32_at(key, 4) {
-        return false;
-    }
-    if words::u32_at(signature, end) != words::u32_at(key, 0) {
-        return false;
-    }
-    if 1 << h <= words::u32_at(signature, 0) {
+    if !lm_format::formed(o, h, key, signature) {
         return false;
     }
     matches(root_of(o, h, key, message, signature), key)
@@ -95,29 +54,18 @@ pub fn check(key: &[u8], message: &[u8], signature: &[u8]) -> Answer
     if digest::MESSAGE_MAX < message.len() {
         return Answer::Long;
     }
-    if key.len() != KEY_SIZE {
+    if key.len() != lm_format::KEY_SIZE {
         return Answer::Bad;
     }
     let OneTime::Known(o) = lm_digits::one_time(words::u32_at(key, 4)) else {
         return Answer::Bad;
     };
-    let Height::Levels(h) = height_of(words::u32_at(key, 0)) else {
+    let Height::Levels(h) = lm_format::height_of(words::u32_at(key, 0)) else {
         return Answer::Bad;
     };
     if verify(o, h, key, message, signature) {
         Answer::Good
     } else {
         Answer::Bad
-    }
-}
-
-// Document 01's number of an answer: 0 good, 15 bad, 16 long message.
-pub fn number_of(answer: Answer) -> u32
-    ensures { λ r. ⌜ r ≡ rfc.answerNumber answer ⌝ }
-{
-    match answer {
-        Answer::Good => 0,
-        Answer::Bad => 15,
-        Answer::Long => 16,
     }
 }

@@ -1,7 +1,7 @@
 // Prints for each line of two files of published LMS vectors, in the files' order, whether its signature is good: 1 or 0.
 // A line of a file is a name, 1 or 0, the key, the message and the signature. The second is not read here: the file `stdout` has them.
 use libc::STDOUT_FILENO;
-use lms::Answer;
+use lm_answer::Answer;
 ghost use Rattle.io.specs.Counts.{Counts};
 
 // Prints an answer as a line.

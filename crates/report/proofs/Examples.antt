@@ -8,8 +8,7 @@ use lib.ListN.{replicate, drop}
 use Rattle.words.specs.BigEndian.{number, be, numberAt, same}
 use Rattle.refusal.specs.Checks.{all, every, check, refusal}
 use Rattle.lm_digits.specs.Parameters.{row}
-use Rattle.lms.specs.Tree.{height}
-use Rattle.lms.specs.Check.{signatureLength, pathAt, oneTimeBytes}
+use Rattle.lm_format.specs.Format.{height, signatureLength, pathAt, oneTimeBytes}
 use Rattle.roster.specs.Roster.{cluster, boards, keyOf, treeType, oneTimeType, levels, signatureSize, everyBoard, sized, typed, single, rosterNumber}
 use Rattle.chain.specs.Log.{version1}
 use Rattle.replica.specs.Ends.{rising}

@@ -5,8 +5,7 @@ use mathlib.Core.List.{List, [], _∷_, _++_, flatMap}
 use Rattle.words.specs.BigEndian.{number, be, numberAt, same}
 use Rattle.refusal.specs.Checks.{all, every, check, refusal}
 use Rattle.lm_digits.specs.Parameters.{row}
-use Rattle.lms.specs.Tree.{height}
-use Rattle.lms.specs.Check.{signatureLength, pathAt, oneTimeBytes}
+use Rattle.lm_format.specs.Format.{height, signatureLength, pathAt, oneTimeBytes}
 use Rattle.lms.specs.Figures.{Figure, figure, AllHold, signatureFigures}
 use Rattle.lms.proofs.Figures.{signature-figures}
 use Rattle.roster.specs.Roster.{cluster, boards, quorum, keyOf, treeType, oneTimeType, levels, signatureSize, everyBoard, sized, typed, single, rosterNumber}

@@ -16,8 +16,7 @@ use Rattle.words.proofs.Same.{same-true}
 use Rattle.refusal.specs.Checks.{all, every, check, refusal}
 use Rattle.refusal.proofs.Laws.{cond-true, every-mem}
 use Rattle.lm_digits.specs.Parameters.{row}
-use Rattle.lms.specs.Tree.{height}
-use Rattle.lms.specs.Check.{signatureLength, pathAt, oneTimeBytes}
+use Rattle.lm_format.specs.Format.{height, signatureLength, pathAt, oneTimeBytes}
 use Rattle.roster.specs.Roster.{cluster, boards, keyOf, treeType, oneTimeType, levels, signatureSize, everyBoard, sized, typed, single, rosterNumber}
 use Rattle.roster.specs.Masks.{signer}
 use Rattle.chain.specs.Log.{version1, Record, chainString, chainFrom, chainStrings, termFrom, lastTerm}

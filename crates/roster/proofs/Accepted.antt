@@ -11,10 +11,9 @@ use lib.Dec.{eqb, leb, lit<, lit≤}
 use lib.ListN.{length}
 use Rattle.refusal.proofs.Laws.{look, cond-true, all-cons, accepted}
 use Rattle.lm_digits.specs.Parameters.{row}
-use Rattle.lms.specs.declared.Height.{Height}
-use Rattle.lms.specs.declared.Height.the-variants.{Levels}
-use Rattle.lms.specs.Tree.{height}
-use Rattle.lms.specs.Check.{keySize, oneTimeBytes, pathAt, signatureLength}
+use Rattle.lm_format.specs.declared.Height.{Height}
+use Rattle.lm_format.specs.declared.Height.the-variants.{Levels}
+use Rattle.lm_format.specs.Format.{height, keySize, oneTimeBytes, pathAt, signatureLength}
 use Rattle.roster.specs.Roster.{headSize, boards, keyOf, treeType, oneTimeType, levels, signatureSize, everyBoard, sized, typed, rosterNumber}
 
 -- ---- every board

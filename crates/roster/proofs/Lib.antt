@@ -1,5 +1,5 @@
 pub mod Quorums
 pub mod Accepted
-mod Answers
 mod Examples
 pub mod Masks
+pub mod EveryBoard

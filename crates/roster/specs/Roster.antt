@@ -7,10 +7,9 @@ use lib.ListN.{length, take, drop}
 use Rattle.words.specs.BigEndian.{numberAt, same}
 use Rattle.refusal.specs.Checks.{all, check, refusal}
 use Rattle.lm_digits.specs.Parameters.{row}
-use Rattle.lms.specs.declared.Height.{Height}
-use Rattle.lms.specs.declared.Height.the-variants.{Levels, Unknown}
-use Rattle.lms.specs.Tree.{height}
-use Rattle.lms.specs.Check.{keySize, signatureLength}
+use Rattle.lm_format.specs.declared.Height.{Height}
+use Rattle.lm_format.specs.declared.Height.the-variants.{Levels, Unknown}
+use Rattle.lm_format.specs.Format.{height, keySize, signatureLength}
 
 -- the bytes of a cluster's name, and of name and n
 abbrev pub nameSize : ℕ

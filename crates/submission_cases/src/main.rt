@@ -1,7 +1,6 @@
 // Prints for sample submissions, one for each number from 5 to 15 and two for 0, the number that validation gives them against a sample roster.
 // The files are made by tests/auditor (make_cases, folder numbers); the file `stdout` has the numbers that its auditor gives.
 use libc::STDOUT_FILENO;
-use validation::checks;
 
 // Prints a submission's name and number as a line. A file that cannot be read whole is an error in the output.
 fn print_number(roster: &[u8], name: &[u8]) {
@@ -15,7 +14,7 @@ fn print_number(roster: &[u8], name: &[u8]) {
     io::write_all(STDOUT_FILENO, b" ");
     io::print_decimal(
         STDOUT_FILENO,
-        checks::validate(roster, &submission[..n]) as u64,
+        validation::validate(roster, &submission[..n]) as u64,
     );
     io::write_all(STDOUT_FILENO, b"\n");
 }

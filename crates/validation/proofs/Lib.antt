@@ -1,2 +1,1 @@
-mod Facts
-mod Fifteen
+pub mod Facts

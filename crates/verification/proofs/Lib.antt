@@ -1,4 +1,2 @@
 pub mod Said
-pub mod Signed
 pub mod Turns
-pub mod Linked

@@ -21,9 +21,10 @@ use Rattle.chain.proofs.Pointers.{pointer-name}
 use Rattle.submission.specs.View.{receiptsOf}
 use Rattle.submission.specs.Reading.{recordSize, recordsOf, ballotSize, ballotAt, signersAt, certificateAt, commitAt}
 use Rattle.submission.specs.Validate.{genuine, formOf}
-use Rattle.verification.specs.Signatures.{goodAll, ballots}
+use Rattle.signatures.specs.Signatures.{goodAll}
+use Rattle.verification.specs.Votes.{ballots}
 use Rattle.submission.proofs.Fits.{length-records}
-use Rattle.verification.proofs.Signed.{goodAll-certified}
+use Rattle.signatures.proofs.Signed.{goodAll-certified}
 
 -- ---- the cluster's name
 

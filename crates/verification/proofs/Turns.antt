@@ -1,9 +1,9 @@
 -- Leader certificates one after the other: what holds of those from a place on holds of the first and of those after it.
 -- Assumes nothing.
-use mathlib.Core.Path.{_≡_, ap}
+use mathlib.Core.Path.{_≡_}
 use mathlib.Core.Bool.{Bool, true, false, not, cond}
-use mathlib.Core.List.{List, _∷_, flatMap}
-use Prim.Native.Nat.{ℕ, zero, suc, _+_, _-_, _*_, _^_, _≤_, _<_}
+use mathlib.Core.List.{List, flatMap}
+use Prim.Native.Nat.{ℕ, suc, _+_, _-_, _*_, _^_, _≤_, _<_}
 use native.Mathlib.Nat.{suc-mul}
 use native.Mathlib.Omega.{arith}
 use borrow.Author.Tests.{not-true, not-false}
@@ -12,48 +12,22 @@ use Rattle.refusal.specs.Checks.{every}
 use Rattle.refusal.proofs.Laws.{cond-true, every-append}
 use Rattle.submission.specs.View.{Slot}
 use Rattle.submission.specs.Reading.{ballotSize, signersAt, certificateAt, certificateEnd, certificates, certificatesEnd}
-use Rattle.verification.specs.Signatures.{ballots, quorateAll}
+use Rattle.verification.specs.Votes.{ballots, quorateAll}
+use Rattle.submission.proofs.Certificates.{certificate-head, certificates-first, rest-inside, first-inside}
 use Rattle.submission.proofs.Slots.{quorate-facts}
 
--- ---- where certificates end
-
 module _ (S : ℕ) (s : List ℕ) where
-  end-after : (at : ℕ) → at ≤ certificateEnd 4 S s at
-  unfolding certificateEnd
-  end-after at = omega arith
-
-  ends-after : (count at : ℕ) → at ≤ certificatesEnd 4 S s count at
-  unfolding certificatesEnd
-  ends-after zero at = omega arith
-  ends-after (suc count) at = omega (arith, end-after at, ends-after count (certificateEnd 4 S s at))
-
   -- ---- the first of those that are left
 
   module _ (left at : ℕ) (more : 0 < left) where
-    one-more : left ≡ suc (left - 1)
-    one-more = omega arith
-
-    pub certificates-first : certificates 4 S s left at ≡ certificateAt 4 s at ∷ certificates 4 S s (left - 1) (certificateEnd 4 S s at)
-    unfolding certificates
-    certificates-first = ap (λ (n : ℕ). certificates 4 S s n at) one-more
-
-    module _ (room : certificatesEnd 4 S s left at ≤ length s) where
-      pub rest-room : certificatesEnd 4 S s (left - 1) (certificateEnd 4 S s at) ≤ length s
-      unfolding certificatesEnd
-      rest-room = rw one-more at room
-
-      pub first-room : certificateEnd 4 S s at ≤ length s
-      first-room = omega (arith, rest-room, ends-after (left - 1) (certificateEnd 4 S s at))
-
-      pub fields-room : at + ballotSize 4 ≤ length s
-      unfolding certificateEnd
-      fields-room = omega (arith, first-room)
+    pub fields-room : certificatesEnd 4 S s left at ≤ length s → at + ballotSize 4 ≤ length s
+    fields-room room = omega (arith, certificate-head 4 S s at, first-inside 4 S s left at more room)
 
     module _ (n : ℕ) (quorums : quorateAll n (certificates 4 S s left at) ≡ true) where
       both : (signersAt s (at + ballotSize 4) < 2 ^ n) × (quorateAll n (certificates 4 S s (left - 1) (certificateEnd 4 S s at)) ≡ true)
       unfolding quorateAll every certificateAt
       both =
-          let p = cond-true _ _ (rw certificates-first at quorums) in
+          let p = cond-true _ _ (rw (certificates-first 4 S s left at more) at quorums) in
           (quorate-facts n (signersAt s (at + ballotSize 4)) (p .0) .1, p .1)
 
       pub first-signers : signersAt s (at + ballotSize 4) < 2 ^ n
@@ -68,7 +42,7 @@ module _ (S : ℕ) (s : List ℕ) where
         {r : Bool} (asked : r ≡ every test (ballots S (certificateAt 4 s at))) where
       votes-first : cond r (every test (flatMap (ballots S) (certificates 4 S s (left - 1) (certificateEnd 4 S s at)))) false ≡ b
       unfolding flatMap
-      votes-first = rw asked (rw (certificates-first, every-append) at votes)
+      votes-first = rw asked (rw (certificates-first 4 S s left at more, every-append) at votes)
 
       pub votes-fail : not r ≡ true → false ≡ b
       votes-fail e = rw (not-true r e) at votes-first
@@ -80,7 +54,7 @@ module _ (S : ℕ) (s : List ℕ) where
   pub next-fields : (left at : ℕ) → 1 < left → certificatesEnd 4 S s left at ≤ length s → certificateEnd 4 S s at + 46 ≤ length s
   unfolding ballotSize
   next-fields left at more room =
-      fields-room (left - 1) (certificateEnd 4 S s at) (omega arith) (rest-room left at (omega arith) room)
+      fields-room (left - 1) (certificateEnd 4 S s at) (omega arith) (rest-inside 4 S s left at (omega arith) room)
 
   -- ---- their stamps
 

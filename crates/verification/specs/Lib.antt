@@ -1,1 +1,1 @@
-pub mod Signatures
+pub mod Votes

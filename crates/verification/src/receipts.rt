@@ -12,8 +12,6 @@ ghost use Rattle.chain.specs.Log as chain;
 ghost use Rattle.submission.specs.View.{receiptsOf};
 ghost use Rattle.submission.specs.Reading.{recordSize, recordsOf, signersAt, commitAt, commitEnd};
 ghost use Rattle.submission.specs.Validate as paper;
-use super::signatures;
-use leadership::terms;
 use sha256::State;
 
 // A receipt's kind byte.

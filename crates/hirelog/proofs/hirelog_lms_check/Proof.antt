@@ -1,7 +1,7 @@
 -- The number of the check's answer.
 -- Assumes nothing.
 use mathlib.Core.Path.{ap, _∙_}
-use Rattle.lms.specs.Check.{answerNumber}
+use Rattle.lm_answer.specs.Number.{answerNumber}
 use borrow.Author.Needs.{needs}
 use Rattle.hirelog.proofs.hirelog_lms_check.Statement.{statement}
 use Rattle.hirelog.proofs.hirelog_lms_check.Tie as tie

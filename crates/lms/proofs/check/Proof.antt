@@ -3,8 +3,9 @@
 use mathlib.Core.Path.{sym, ap, _∙_}
 use Rattle.words.specs.BigEndian.{numberAt}
 use Rattle.lm_digits.specs.Parameters.{oneTime}
-use Rattle.lms.specs.Tree.{height}
-use Rattle.lms.proofs.Answers.{long-message, wrong-key, no-one-time, no-height, height-le, verified, not-verified}
+use Rattle.lm_format.specs.Format.{height}
+use Rattle.lm_format.proofs.Forms.{height-le}
+use Rattle.lms.proofs.Answers.{long-message, wrong-key, no-one-time, no-height, verified, not-verified}
 use borrow.Author.Needs.{needs}
 use Rattle.lms.proofs.check.Statement.{statement}
 use Rattle.lms.proofs.check.Tie as tie

@@ -11,8 +11,9 @@ use Rattle.sha256.specs.Sha256.{bytesOf}
 use Rattle.lm_hash.specs.Identifier.{identifier}
 use Rattle.lm_ots.specs.Candidate.{candidate}
 use Rattle.lm_ots.proofs.Rows.{few}
-use Rattle.lms.specs.Tree.{root}
-use Rattle.lms.specs.Check.{oneTimeBytes, pathAt, signatureLength, rootOf}
+use Rattle.lm_format.specs.Format.{oneTimeBytes, pathAt, signatureLength}
+use Rattle.lm_tree.specs.Tree.{root}
+use Rattle.lms.specs.Check.{rootOf}
 use borrow.Author.Needs.{needs}
 use Rattle.lms.proofs.root_of.Statement.{statement}
 use Rattle.lms.proofs.root_of.Tie as tie

@@ -5,7 +5,7 @@ use Prim.Native.Nat.{_+_, _-_, _*_, _≤_}
 use native.Mathlib.Omega.{arith}
 use lib.ListN.{length, drop, length-drop}
 use lib.Seq.{length-take-le}
-use Rattle.lms.specs.Check.{keySize}
+use Rattle.lm_format.specs.Format.{keySize}
 use Rattle.roster.specs.Roster.{headSize, keyOf}
 use borrow.Author.Needs.{needs}
 use Rattle.roster.proofs.key_of.Statement.{statement}

@@ -4,7 +4,7 @@ use mathlib.Core.Path.{ap, _∙_}
 use Prim.Native.Nat.{ℕ}
 use native.Mathlib.Omega.{arith}
 use borrow.Author.Needs.{needs}
-use Rattle.lms.specs.Tree.{height}
+use Rattle.lm_format.specs.Format.{height}
 use Rattle.roster.specs.Roster.{levels}
 use Rattle.roster.proofs.Accepted.{size-of-levels}
 use Rattle.roster.proofs.signature_size.Statement.{statement}

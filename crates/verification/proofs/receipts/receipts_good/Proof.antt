@@ -12,7 +12,7 @@ use Rattle.roster.specs.Roster.{cluster}
 use Rattle.roster.specs.Masks.{boardsOf}
 use Rattle.chain.specs.Log.{lastTerm}
 use Rattle.submission.specs.Reading.{recordSize, recordsOf, signersAt, commitEnd}
-use Rattle.verification.specs.Signatures.{goodAll}
+use Rattle.signatures.specs.Signatures.{goodAll}
 use Rattle.verification.proofs.Said.{name-length, receipt-slots}
 use borrow.Author.Needs.{needs}
 use Rattle.verification.proofs.receipts.receipts_good.Statement.{statement}

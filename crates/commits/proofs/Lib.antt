@@ -1,0 +1,2 @@
+pub mod Commits
+mod Examples

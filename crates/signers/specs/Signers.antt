@@ -1,0 +1,8 @@
+-- The signers of leader certificates, on which check 10 is (document 01, "What stops an audit").
+use mathlib.Core.List.{List, map}
+use Prim.Native.Nat.{ℕ}
+use Rattle.submission.specs.Reading.{certificates}
+
+-- those of so many leader certificates from a place on
+unfoldable pub leaderMasks : ℕ → List ℕ → ℕ → ℕ → List ℕ
+leaderMasks S s count at = map (λ c. c .signers) (certificates 4 S s count at)
