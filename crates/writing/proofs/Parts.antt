@@ -15,8 +15,8 @@ use Rattle.words.specs.BigEndian.{be}
 use Rattle.words.proofs.Laws.{length-be, sets-append}
 use Rattle.replica.specs.Charges.{Charge}
 use Rattle.forensics.specs.Findings.{bit, maskOf}
-use Rattle.findings.specs.declared.Row.{Row}
-use Rattle.findings.specs.Rules.{chargeOf}
+use Rattle.charges.specs.declared.Row.{Row}
+use Rattle.charges.specs.Charges.{chargeOf}
 use Rattle.report.specs.Report.{Answer, rowBytes, reportBytes}
 use Rattle.writing.specs.Answers.{answered}
 

@@ -6,11 +6,11 @@ ghost use lib.ListN.{length, drop};
 ghost use lib.Seq.{sets};
 ghost use Rattle.words.specs.BigEndian.{be};
 ghost use Rattle.forensics.specs.Findings.{bit, maskOf};
-ghost use Rattle.findings.specs.Rules.{chargeOf};
+ghost use Rattle.charges.specs.Charges.{chargeOf};
 ghost use Rattle.report.specs.Report.{refused, reportSize, rowBytes, reportBytes};
 ghost use Rattle.writing.specs.Answers.{answered, accepted};
-use findings::Findings;
-use findings::Row;
+use charges::Findings;
+use charges::Row;
 
 // 1 if the board of a row is named, and 0 if not.
 fn bit_of(row: Row) -> u16

@@ -7,7 +7,7 @@ use native.Mathlib.Omega.{arith}
 use borrow.Author.Needs.{needs}
 use lib.ListN.{drop-of-length-le, length, drop}
 use Rattle.forensics.specs.Findings.{maskOf}
-use Rattle.findings.specs.Rules.{chargeOf}
+use Rattle.charges.specs.Charges.{chargeOf}
 use Rattle.writing.proofs.Parts.{next-bit, mask-small}
 use Rattle.writing.proofs.named.Statement.{statement}
 use Rattle.writing.proofs.named.Tie as tie

@@ -7,8 +7,8 @@ use native.Mathlib.Omega.{arith}
 use borrow.Author.Needs.{needs}
 use lib.ListN.{length, take}
 use lib.Seq.{sets, take-all}
-use Rattle.findings.specs.declared.Row.{Row}
-use Rattle.findings.specs.Rules.{chargeOf}
+use Rattle.charges.specs.declared.Row.{Row}
+use Rattle.charges.specs.Charges.{chargeOf}
 use Rattle.report.specs.Report.{rowBytes}
 use Rattle.writing.proofs.Parts.{rows-none, rows-more}
 use Rattle.writing.proofs.put_rows.Statement.{statement}
