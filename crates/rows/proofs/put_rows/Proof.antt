@@ -10,9 +10,9 @@ use lib.Seq.{sets, take-all}
 use Rattle.charges.specs.declared.Row.{Row}
 use Rattle.charges.specs.Charges.{chargeOf}
 use Rattle.report.specs.Report.{rowBytes}
-use Rattle.writing.proofs.Parts.{rows-none, rows-more}
-use Rattle.writing.proofs.put_rows.Statement.{statement}
-use Rattle.writing.proofs.put_rows.Tie as tie
+use Rattle.rows.proofs.Bytes.{rows-none, rows-more}
+use Rattle.rows.proofs.put_rows.Statement.{statement}
+use Rattle.rows.proofs.put_rows.Tie as tie
 
 abbrev Inv-loop : tie.InvT-loop
 Inv-loop out₀ rows i₀ out i = (i ≤ 9) × (length out ≡ length out₀) × (out ≡ sets out₀ 8 (flatMap rowBytes (map chargeOf (take i rows))))

@@ -2,9 +2,9 @@
 -- Assumes nothing.
 use lib.Dec.{lit<}
 use Rattle.forensics.specs.Findings.{bit}
-use Rattle.writing.proofs.Parts.{charge-none, charge-some}
-use Rattle.writing.proofs.bit_of.Statement.{statement}
-use Rattle.writing.proofs.bit_of.Tie as tie
+use Rattle.charges.proofs.Rows.{charge-none, charge-some}
+use Rattle.rows.proofs.bit_of.Statement.{statement}
+use Rattle.rows.proofs.bit_of.Tie as tie
 
 returns : tie.Need-returns
 unfolding bit

@@ -3,8 +3,8 @@
 use native.Mathlib.Nat.{div-one}
 use borrow.Author.Needs.{needs}
 use Rattle.words.specs.BigEndian.{be}
-use Rattle.writing.proofs.put_u8.Statement.{statement}
-use Rattle.writing.proofs.put_u8.Tie as tie
+use Rattle.rows.proofs.put_u8.Statement.{statement}
+use Rattle.rows.proofs.put_u8.Tie as tie
 
 returns : tie.Need-returns
 unfolding be
