@@ -3,8 +3,8 @@
 use mathlib.Core.Path.{refl}
 use native.Mathlib.Nat.{le-refl}
 use borrow.Author.Needs.{needs}
-use Rattle.lines.proofs.put_end.Statement.{statement}
-use Rattle.lines.proofs.put_end.Tie as tie
+use Rattle.texts.proofs.put_end.Statement.{statement}
+use Rattle.texts.proofs.put_end.Tie as tie
 
 returns : tie.Need-returns
 returns c = record { stored = refl; after = refl; few = le-refl 1 }

@@ -11,7 +11,7 @@ use borrow.Author.Tests.{ltb-true, ltb-false, lt-ltb, le-ltb}
 use lib.Dec.{ltb, lit<}
 use lib.ListN.{length, length-append}
 use Rattle.refusal.proofs.Laws.{look}
-use Rattle.lines.specs.Lines.{digits, decimal}
+use Rattle.decimal.specs.Decimal.{digits, decimal}
 
 -- ---- steps
 

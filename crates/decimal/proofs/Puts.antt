@@ -7,9 +7,9 @@ use native.Mathlib.Omega.{arith}
 use lib.ListN.{length, length-append, length-replicate, replicate, drop, set}
 use lib.Seq.{sets, set-comm, length-sets, sets-eq}
 use Rattle.words.proofs.Laws.{sets-append}
-use Rattle.lines.specs.Lines.{decimal}
-use Rattle.lines.specs.Put.{Put}
-use Rattle.lines.proofs.Decimal.{decimal-low, decimal-high, length-high}
+use Rattle.decimal.specs.Decimal.{decimal}
+use Rattle.decimal.specs.Put.{Put}
+use Rattle.decimal.proofs.Decimal.{decimal-low, decimal-high, length-high}
 
 -- a store behind a run of stores may come first
 pub set-behind : (l vs : List ℕ) (at j x : ℕ) → at + length vs ≤ j → sets (set l j x) at vs ≡ set (sets l at vs) j x

@@ -5,10 +5,10 @@ use Prim.Native.Nat.{_+_, _<_}
 use native.Mathlib.Omega.{arith}
 use borrow.Author.Needs.{needs}
 use lib.ListN.{length}
-use Rattle.lines.specs.Lines.{decimal}
-use Rattle.lines.proofs.Decimal.{length-low, length-high, length-ten, length-pos}
-use Rattle.lines.proofs.digit_count.Statement.{statement}
-use Rattle.lines.proofs.digit_count.Tie as tie
+use Rattle.decimal.specs.Decimal.{decimal}
+use Rattle.decimal.proofs.Decimal.{length-low, length-high, length-ten, length-pos}
+use Rattle.decimal.proofs.digit_count.Statement.{statement}
+use Rattle.decimal.proofs.digit_count.Tie as tie
 
 abbrev Inv-loop : tie.InvT-loop
 Inv-loop x count₀ rest₀ count rest = (0 < count) × (count + length (decimal rest) ≡ length (decimal x) + 1)

@@ -6,11 +6,11 @@ use native.Mathlib.Omega.{arith}
 use borrow.Author.Needs.{needs}
 use lib.ListN.{length, length-set}
 use lib.Seq.{sets}
-use Rattle.lines.specs.Lines.{decimal}
-use Rattle.lines.proofs.Decimal.{length-high, length-pos}
-use Rattle.lines.proofs.Puts.{digit-step, digit-first}
-use Rattle.lines.proofs.put_digits.Statement.{statement}
-use Rattle.lines.proofs.put_digits.Tie as tie
+use Rattle.decimal.specs.Decimal.{decimal}
+use Rattle.decimal.proofs.Decimal.{length-high, length-pos}
+use Rattle.decimal.proofs.Puts.{digit-step, digit-first}
+use Rattle.decimal.proofs.put_digits.Statement.{statement}
+use Rattle.decimal.proofs.put_digits.Tie as tie
 
 abbrev Inv-loop : tie.InvT-loop
 Inv-loop out₀ at count x k₀ rest₀ out k rest =

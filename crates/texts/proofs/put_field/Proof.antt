@@ -5,10 +5,10 @@ use Prim.Native.Nat.{_+_}
 use native.Mathlib.Nat.{le-refl}
 use borrow.Author.Needs.{needs}
 use lib.ListN.{length}
-use Rattle.lines.specs.Put.{Put}
-use Rattle.lines.proofs.Puts.{put-then}
-use Rattle.lines.proofs.put_field.Statement.{statement}
-use Rattle.lines.proofs.put_field.Tie as tie
+use Rattle.decimal.specs.Put.{Put}
+use Rattle.decimal.proofs.Puts.{put-then}
+use Rattle.texts.proofs.put_field.Statement.{statement}
+use Rattle.texts.proofs.put_field.Tie as tie
 
 returns : tie.Need-returns
 returns c =
