@@ -1,34 +1,13 @@
-// The rows of the report, written, and the boards that they name (document 01, "The report").
+// The rows of the report, written (document 01, "The report").
 ghost use mathlib.Core.Path.{_≡_};
 ghost use mathlib.Core.List.{_++_, map, flatMap};
 ghost use Prim.Native.Nat.{_+_, _≤_, _<_};
 ghost use lib.ListN.{length};
 ghost use lib.Seq.{sets};
 ghost use Rattle.words.specs.BigEndian.{be};
-ghost use Rattle.forensics.specs.Findings.{bit, maskOf};
 ghost use Rattle.charges.specs.Charges.{chargeOf};
 ghost use Rattle.report.specs.Report.{reportSize, rowBytes};
 use charges::Row;
-
-// 1 if the board of a row is named, and 0 if not.
-fn bit_of(row: Row) -> u16
-    ensures { λ r. ⌜ (r ≡ bit (chargeOf row)) × (r < 2) ⌝ }
-{
-    if row.rule == 0 { 0 } else { 1 }
-}
-
-// The named boards: bit k - 1 is board k.
-pub fn named(rows: [Row; 9]) -> u16
-    ensures { λ r. ⌜ r ≡ maskOf (map chargeOf rows) ⌝ }
-{
-    let mut mask: u16 = 0;
-    let mut left: usize = 9;
-    while 0 < left {
-        left -= 1;
-        mask = mask * 2 + bit_of(rows[left]);
-    }
-    mask
-}
 
 // Writes a number to the byte at a place.
 pub fn put_u8(out: &mut [u8], at: usize, x: u32)

@@ -26,7 +26,7 @@ fn put_report(out: &mut [u8], number: u32, side: u32, fork: u32, rows: [Row; 9])
     requires { ⌜ reportSize ≤ length (now out) ⌝ }
     ensures { λ _. ⌜ now (out .exit) ≡ reportBytes (answered number side fork rows) ++ drop reportSize (now (out .entry)) ⌝ }
 {
-    put_head(out, number, side, fork, rows::named(rows));
+    put_head(out, number, side, fork, mask::named(rows));
     rows::put_rows(out, rows);
 }
 

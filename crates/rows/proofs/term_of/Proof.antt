@@ -1,6 +1,5 @@
 -- A row of rule 0 is no charge, and its bytes are zeros; any other has its rule and its term.
 -- Assumes nothing.
-use mathlib.Core.Path.{refl}
 use Rattle.report.specs.Report.{rowBytes}
 use Rattle.charges.proofs.Rows.{chargeIn, charge-none, charge-some}
 use Rattle.rows.proofs.term_of.Statement.{statement}

@@ -8,9 +8,9 @@ use borrow.Author.Needs.{needs}
 use lib.ListN.{drop-of-length-le, length, drop}
 use Rattle.forensics.specs.Findings.{maskOf}
 use Rattle.charges.specs.Charges.{chargeOf}
-use Rattle.rows.proofs.Bytes.{next-bit, mask-small}
-use Rattle.rows.proofs.named.Statement.{statement}
-use Rattle.rows.proofs.named.Tie as tie
+use Rattle.mask.proofs.Bits.{next-bit, mask-small}
+use Rattle.mask.proofs.named.Statement.{statement}
+use Rattle.mask.proofs.named.Tie as tie
 
 abbrev Inv-loop : tie.InvT-loop
 Inv-loop rows mask₀ left₀ mask left = (left ≤ 9) × (mask ≡ maskOf (map chargeOf (drop left rows)))

@@ -3,8 +3,8 @@
 use lib.Dec.{lit<}
 use Rattle.forensics.specs.Findings.{bit}
 use Rattle.charges.proofs.Rows.{charge-none, charge-some}
-use Rattle.rows.proofs.bit_of.Statement.{statement}
-use Rattle.rows.proofs.bit_of.Tie as tie
+use Rattle.mask.proofs.bit_of.Statement.{statement}
+use Rattle.mask.proofs.bit_of.Tie as tie
 
 returns : tie.Need-returns
 unfolding bit
