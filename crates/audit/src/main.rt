@@ -7,27 +7,6 @@ ghost use Rattle.io.specs.Counts.{Counts};
 ghost use Rattle.report.specs.Report.{reportAfter};
 ghost use Rattle.lines.specs.Lines.{lines};
 
-// Whether nothing is left to read, and the last read did not fail.
-fn at_end(file: i32) -> bool {
-    let mut more = [0u8; 1];
-    libc::read(file, &mut more) == 0
-}
-
-// Puts a file at the start of `buffer`, and gives its length: 0 for a file that is missing, that cannot be read, or that is larger than `buffer`.
-// No bytes are number 2 of a roster and number 5 of a submission, as a larger file is: it is never judged by its beginning.
-fn load(name: &[u8], buffer: &mut [u8]) -> usize
-    ensures { λ r. ⌜ Counts r (now (buffer .exit)) ⌝ }
-{
-    let file = os::open_read(name);
-    if file < 0 {
-        return 0;
-    }
-    let n = io::read_full(file, buffer);
-    let whole = at_end(file);
-    libc::close(file);
-    if whole { n } else { 0 }
-}
-
 // Puts the lines of the report of three inputs at the start of `out`, and gives their length.
 fn report_lines(roster: &[u8], first: &[u8], second: &[u8], out: &mut [u8; 512]) -> usize
     ensures within { λ r. ⌜ Counts r (now (out .exit)) ⌝ }
@@ -38,14 +17,19 @@ fn report_lines(roster: &[u8], first: &[u8], second: &[u8], out: &mut [u8; 512])
     lines::text(report, out)
 }
 
+// Prints the lines of the report of three inputs.
+fn print(roster: &[u8], first: &[u8], second: &[u8]) {
+    let mut out = [0u8; 512];
+    let n = report_lines(roster, first, second, &mut out);
+    io::write_all(STDOUT_FILENO, &out[..n]);
+}
+
 fn main() {
     let mut roster = [0u8; 1024];
     let mut first = [0u8; 28672];
     let mut second = [0u8; 28672];
-    let r = load(b"roster", &mut roster);
-    let a = load(b"first", &mut first);
-    let b = load(b"second", &mut second);
-    let mut out = [0u8; 512];
-    let n = report_lines(&roster[..r], &first[..a], &second[..b], &mut out);
-    io::write_all(STDOUT_FILENO, &out[..n]);
+    let r = files::load(b"roster", &mut roster);
+    let a = files::load(b"first", &mut first);
+    let b = files::load(b"second", &mut second);
+    print(&roster[..r], &first[..a], &second[..b]);
 }

@@ -11,8 +11,8 @@ use lib.Seq.{take-all, take-suc-set}
 use Rattle.replica.specs.Charges.{Charge}
 use Rattle.submission.specs.View.{Slot}
 use Rattle.forensics.specs.Findings.{charges, lowest, rowsFrom}
-use Rattle.findings.specs.declared.Row.{Row}
-use Rattle.findings.specs.Rules.{rowsBy, chargeOf}
+use Rattle.charges.specs.declared.Row.{Row}
+use Rattle.charges.specs.Charges.{rowsBy, chargeOf}
 
 module _ (row : ℕ → Option Charge) where
   rows-snoc : (count k : ℕ) → rowsBy row (suc count) k ≡ rowsBy row count k ++ (row (k + count) ∷ [])

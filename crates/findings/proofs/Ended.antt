@@ -3,11 +3,10 @@
 -- Assumes nothing.
 use mathlib.Core.Path.{_≡_, refl, sym, ap, _∙_}
 use mathlib.Core.List.{List, [], _∷_, map}
-use Prim.Native.Nat.{ℕ, zero, suc, _+_, _-_, _<_}
+use Prim.Native.Nat.{ℕ, zero, suc, _+_, _-_}
 use native.Mathlib.Omega.{arith}
 use borrow.Author.Tests.{eqb-true}
 use lib.ListN.{length}
-use Rattle.words.specs.BigEndian.{numberAt}
 use Rattle.chain.specs.Log.{Record, version1}
 use Rattle.roster.specs.Roster.{boards, signatureSize}
 use Rattle.submission.specs.Trailer.{recordCount, leaderCount}
@@ -16,35 +15,10 @@ use Rattle.submission.specs.Reading.{recordsOf, certificateAt, certificateEnd, 
 use Rattle.submission.specs.Validate.{formOf, viewOf, oneEach}
 use Rattle.submission.proofs.Accepted.{Sound, length-certificates}
 use Rattle.submission.proofs.Fits.{length-records}
-use Rattle.reader.specs.declared.Certificate.{Certificate as Numbers}
-use Rattle.reader.specs.Reader.{numbersAt}
 use Rattle.leadership.proofs.Leads.{last-index-at}
 use Rattle.stamps.proofs.Linked.{Linked, linked-runs, leadAt, leadsFrom, leads-first, TermsLeft, turn}
-use Rattle.findings.specs.declared.Tenure.{Tenure}
 use Rattle.findings.proofs.Views.{tenure, tenures}
-use Rattle.findings.specs.Tenures.{endAt, tenureAt, tenuresAt, tenuresOf}
-
--- ---- one term, as it is read
-
-module _ (s : List ℕ) (later next : ℕ) where
-  pub ends-log : later ≡ 0 → recordCount s ≡ endAt s later next
-  unfolding endAt
-  ends-log h = rw h
-
-  pub ends-next : 0 < later → numberAt 4 s (next + 10) ≡ endAt s later next
-  unfolding endAt
-  ends-next h =
-      let count : later ≡ suc (later - 1) = omega arith in
-      last-index-at s next ∙ ap (λ (n : ℕ). endAt s n next) (sym count)
-
-pub tenure-numbers : (s : List ℕ) (later at next : ℕ) {c : Numbers} {end : ℕ} → c ≡ numbersAt s at → end ≡ endAt s later next
-    → _≡_ {A = Tenure}
-    (record { candidate = c .candidate; term = c .term; «last_term» = c .«last_term»; «last_index» = c .«last_index»; signers = c .signers; end = end })
-    (tenureAt s later at next)
-unfolding tenureAt numbersAt
-tenure-numbers s later at next ec ee = rw (ec, ee)
-
--- ---- all of them, as the log has them
+use Rattle.tenures.specs.Tenures.{endAt, tenureAt, tenuresAt, tenuresOf}
 
 module _ (roster s : List ℕ) (S : ℕ) where
   abbrev log : List Record

@@ -14,10 +14,10 @@ use Rattle.forensics.specs.Findings.{lowest}
 use Rattle.submission.proofs.Certificates.{certificates-from, end-first}
 use Rattle.reader.proofs.Readings.{certificate-fields}
 use Rattle.layout.proofs.Inside.{leaders-inside}
-use Rattle.findings.specs.declared.Tenure.{Tenure}
-use Rattle.findings.specs.Rules.{least}
-use Rattle.findings.specs.Tenures.{tenureAt, tenuresAt, tenuresOf}
-use Rattle.findings.proofs.Lowest.{least-none, least-assoc, lowest-append}
+use Rattle.rules.specs.declared.Tenure.{Tenure}
+use Rattle.charges.specs.Charges.{least}
+use Rattle.tenures.specs.Tenures.{tenureAt, tenuresAt, tenuresOf}
+use Rattle.charges.proofs.Lowest.{least-none, least-assoc, lowest-append}
 
 module _ (S : ℕ) (s : List ℕ) where
   tenures-first : (left at : ℕ) → 0 < left

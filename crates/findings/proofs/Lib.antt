@@ -1,14 +1,8 @@
 pub mod Views
-pub mod Lowest
-pub mod Differ
 pub mod Says
 pub mod Pairs
 pub mod Rules
-pub mod Steps
-pub mod Broken
-pub mod Charged
 pub mod Ended
 pub mod Left
-pub mod Committed
 pub mod Boards
 pub mod Shown

@@ -13,8 +13,8 @@ use Rattle.chain.specs.Claim.{Ballot, Claim, stamped, received, voted}
 use Rattle.replica.specs.Charges.{Charge, clash}
 use Rattle.submission.specs.View.{Commit, Lead}
 use Rattle.forensics.specs.Findings.{lowest}
-use Rattle.findings.specs.Rules.{least}
-use Rattle.findings.proofs.Lowest.{least-none, least-assoc, least-comm, lowest-over-append, lowest-split}
+use Rattle.charges.specs.Charges.{least}
+use Rattle.charges.proofs.Lowest.{least-none, least-assoc, least-comm, lowest-over-append, lowest-split}
 use Rattle.findings.proofs.Says.{saidIf, voteBy, stampBy, receiptBy}
 
 -- ---- one list for each element

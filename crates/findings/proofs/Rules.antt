@@ -24,11 +24,12 @@ use Rattle.submission.specs.Validate.{leading, within}
 use Rattle.submission.proofs.Accepted.{Sound}
 use Rattle.submission.proofs.Runs.{run-begins}
 use Rattle.forensics.specs.Findings.{says, charges, lowest, differAt}
-use Rattle.findings.specs.declared.Receipt.{Receipt}
-use Rattle.findings.specs.Rules.{receiptsBy, receipts, twoCandidates, twoLogs, forgotten, between, amongTerms, afterReceipts, least, ruledBy}
+use Rattle.rules.specs.declared.Receipt.{Receipt}
+use Rattle.rules.specs.Rules.{twoCandidates, twoLogs, forgotten}
+use Rattle.charges.specs.Charges.{receiptsBy, receipts, between, amongTerms, afterReceipts, least, ruledBy}
 use Rattle.findings.proofs.Views.{tenure, tenures, ruled}
-use Rattle.findings.proofs.Lowest.{lowest-append, lowest-split, lowest-both}
-use Rattle.findings.proofs.Differ.{agree-take}
+use Rattle.charges.proofs.Lowest.{lowest-append, lowest-split, lowest-both}
+use Rattle.logs.proofs.Differ.{agree-take}
 use Rattle.findings.proofs.Says.{saidIf, vote, stamp, receipt, voter, stamper, voteBy, stampBy, receiptBy, says-slots}
 use Rattle.findings.proofs.Pairs.{over-same, over-over, over-map, pairs, by-kind, are-votes, are-stamps, are-given}
 

@@ -18,13 +18,14 @@ use Rattle.submission.proofs.Accepted.{Sound, validated}
 use Rattle.forensics.specs.Findings.{differAt, fork, charges, lowest, findings}
 use Rattle.layout.specs.Parts.{Bounds}
 use Rattle.layout.proofs.Inside.{bounds}
-use Rattle.findings.specs.declared.Receipts.{Receipts}
-use Rattle.findings.specs.declared.Row.{Row}
-use Rattle.findings.specs.Rules.{receipts, ruledBy, rowsBy, forkOf, chargeOf, findingsOf}
+use Rattle.charges.specs.declared.Receipts.{Receipts}
+use Rattle.charges.specs.declared.Row.{Row}
+use Rattle.charges.specs.Charges.{receipts, ruledBy, rowsBy, forkOf, chargeOf, findingsOf}
 use Rattle.findings.proofs.Views.{ruled}
-use Rattle.findings.specs.Tenures.{tenuresOf, read}
+use Rattle.tenures.specs.Tenures.{tenuresOf}
+use Rattle.findings.specs.Read.{read}
 use Rattle.findings.proofs.Boards.{rows-same}
-use Rattle.findings.proofs.Differ.{fork-ruled}
+use Rattle.logs.proofs.Differ.{fork-ruled}
 use Rattle.findings.proofs.Ended.{tenures-read}
 use Rattle.findings.proofs.Rules.{rows-ruled}
 

@@ -5,8 +5,8 @@ use Prim.Native.Nat.{ℕ}
 use lib.ListN.{length}
 use Rattle.replica.specs.Charges.{Charge}
 use Rattle.submission.specs.View.{View, Lead, leads}
-use Rattle.findings.specs.declared.Tenure.{Tenure}
-use Rattle.findings.specs.Rules.{receipts, ruledBy}
+use Rattle.rules.specs.declared.Tenure.{Tenure}
+use Rattle.charges.specs.Charges.{receipts, ruledBy}
 
 unfoldable pub tenure : Lead → Tenure
 tenure l =

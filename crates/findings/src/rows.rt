@@ -6,15 +6,13 @@ ghost use Prim.Native.Nat.{_<_};
 ghost use Rattle.submission.specs.Reading.{laidOut};
 ghost use Rattle.forensics.specs.Findings.{lowest};
 ghost use Rattle.layout.specs.Parts.{Bounds};
-ghost use Rattle.findings.specs.Rules as paper;
-ghost use Rattle.findings.specs.Tenures.{tenuresOf};
-ghost use Rattle.findings.specs.declared.Receipts.the-variants.{Given};
-use super::Receipt;
-use super::Receipts;
-use super::Row;
-use super::Tenure;
-use super::charges;
-use super::tenures;
+ghost use Rattle.charges.specs.Charges as paper;
+ghost use Rattle.charges.specs.declared.Receipts.the-variants.{Given};
+ghost use Rattle.tenures.specs.Tenures.{tenuresOf};
+use charges::Receipts;
+use charges::Row;
+use rules::Receipt;
+use rules::Tenure;
 
 // The boards that have a row.
 const ROWS: usize = 9;
@@ -55,7 +53,8 @@ fn among_terms(k: usize, difference: usize, a: &[u8], b: &[u8], size: usize) -> 
     best
 }
 
-// The row of board k from a receipt of the one and the terms of the other: rule 3 or 4.
+// The row of board k from a receipt of the one and the terms of the other: rule 3 or 4. The loop is that of `against`: one over both kinds of charge would need
+// an enum of them, with its own contract, and a match in each turn.
 fn after_given(k: usize, rule: u8, given: Receipt, s: &[u8], size: usize) -> Row
     requires { ⌜ (0 < k) × (0 < rule) × Bounds size (now s) × (laidOut 4 size (now s) ≡ true) ⌝ }
     ensures { λ r. ⌜ paper.chargeOf r ≡ lowest (paper.afterReceipts k rule (Given given) (tenuresOf size (now (s .entry)))) ⌝ }

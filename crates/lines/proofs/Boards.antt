@@ -9,9 +9,10 @@ use native.Mathlib.Omega.{arith}
 use lib.ListN.{getD}
 use Rattle.words.specs.BigEndian.{numberAt}
 use Rattle.roster.specs.Masks.{signer}
-use Rattle.lines.specs.Lines.{refusalLine, boardLine, rowAt, namedLine, boardLines}
-use Rattle.lines.specs.Put.{Put}
-use Rattle.lines.proofs.Puts.{put-then, put-none}
+use Rattle.texts.specs.Texts.{refusalLine, boardLine}
+use Rattle.lines.specs.Lines.{rowAt, namedLine, boardLines}
+use Rattle.decimal.specs.Put.{Put}
+use Rattle.decimal.proofs.Puts.{put-then, put-none}
 
 -- ---- number and where
 

@@ -7,8 +7,10 @@ use lib.Dec.{lit<}
 use lib.ListN.{replicate}
 use Rattle.words.specs.BigEndian.{number, numberAt}
 use Rattle.roster.specs.Masks.{signer}
-use Rattle.lines.specs.Lines.{ascii, digits, decimal, refusalLine, forkLine, boardLine, rowAt, namedLine, boardLines, lines}
-use Rattle.lines.proofs.Decimal.{decimal-steps}
+use Rattle.decimal.specs.Decimal.{digits, decimal}
+use Rattle.texts.specs.Texts.{ascii, refusalLine, forkLine, boardLine}
+use Rattle.lines.specs.Lines.{rowAt, namedLine, boardLines, lines}
+use Rattle.decimal.proofs.Decimal.{decimal-steps}
 
 -- ---- decimal
 

@@ -1,4 +1,2 @@
-pub mod Decimal
-pub mod Puts
-pub mod Boards
+mod Boards
 mod Examples

@@ -1,44 +1,11 @@
--- The lines that the program prints of a report (document 01, "The report"): `refusal N in W`, `fork I`, then for each named board, rising,
--- `board B rule R term T`, all in decimal. Each line ends with a line feed.
+-- The lines that the program prints of a report's bytes (document 01, "The report"): number and where, the fork index, then each named board, rising.
 use mathlib.Core.Bool.{cond}
-use mathlib.Core.List.{List, [], _∷_, _++_}
-use Prim.Native.Nat.{ℕ, zero, suc, _+_, _-_, _*_, _/_, _%_}
-use Prim.Native.Char.{code}
-use Prim.Native.String.{String, [] as empty, _∷_ as _then_}
-use lib.Dec.{ltb}
+use mathlib.Core.List.{List, [], _++_}
+use Prim.Native.Nat.{ℕ, zero, suc, _+_, _-_, _*_}
 use lib.ListN.{getD}
 use Rattle.words.specs.BigEndian.{numberAt}
 use Rattle.roster.specs.Masks.{signer}
-
--- the bytes of a text in ASCII
-unfoldable pub ascii : String → List ℕ
-ascii empty = []
-ascii (c then s) = code c ∷ ascii s
-
--- ---- decimal
-
--- the digits of a number, highest first: a number below 10 is its digit, any other has the digits of a tenth of it and then its last one
-unfoldable pub digits : ℕ → ℕ → List ℕ
-digits zero n = []
-digits (suc steps) n = cond (ltb n 10) ((48 + n) ∷ []) (digits steps (n / 10) ++ (48 + n % 10) ∷ [])
-
--- each step makes the number less, so that n + 1 of them are enough
-unfoldable pub decimal : ℕ → List ℕ
-decimal n = digits (suc n) n
-
--- ---- the lines
-
-unfoldable pub refusalLine : ℕ → ℕ → List ℕ
-refusalLine number side = (ascii "refusal " ++ decimal number) ++ (ascii " in " ++ decimal side) ++ ascii "\n"
-
-unfoldable pub forkLine : ℕ → List ℕ
-forkLine index = (ascii "fork " ++ decimal index) ++ ascii "\n"
-
-unfoldable pub boardLine : ℕ → ℕ → ℕ → List ℕ
-boardLine board rule term =
-    (ascii "board " ++ decimal board) ++ (ascii " rule " ++ decimal rule) ++ (ascii " term " ++ decimal term) ++ ascii "\n"
-
--- ---- of a report's bytes
+use Rattle.texts.specs.Texts.{refusalLine, forkLine, boardLine}
 
 -- where the row of board k begins: after number, where, fork index and named boards, 5 bytes a row
 unfoldable pub rowAt : ℕ → ℕ

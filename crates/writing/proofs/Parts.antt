@@ -1,113 +1,18 @@
--- The laws of the report's parts: a row's bytes and bit, the named boards from the rows, and parts written one after the other.
+-- The head and the rows are the report's bytes, in place of the first 53.
 -- Assumes nothing.
-use mathlib.Core.Path.{_≡_, refl, sym, ap, _∙_}
-use mathlib.Core.List.{List, [], _∷_, _++_, map, flatMap, append-nil, append-assoc, map-append}
-use mathlib.Core.Option.{Option, some, none}
-use Prim.Native.Nat.{ℕ, suc, _+_, _-_, _*_, _^_, _≤_, _<_}
-use native.Mathlib.Nat.{pow-suc, pow-le-pow-right, lt-of-lt-of-le}
-use native.Mathlib.Numerals.{add-one}
+use mathlib.Core.Path.{_≡_, _∙_}
+use mathlib.Core.List.{List, _++_, map, flatMap}
+use Prim.Native.Nat.{ℕ, _≤_}
 use native.Mathlib.Omega.{arith}
-use borrow.Author.Tests.{eq-eqb, ne-eqb}
-use lib.Dec.{lit<}
-use lib.ListN.{length, take, drop, getD, length-append, length-drop, length-map}
-use lib.Seq.{sets, sets-eq, length-sets, take-suc, drop-cons, length-take-le}
+use lib.ListN.{length, drop, length-map}
+use lib.Seq.{sets, sets-eq}
 use Rattle.words.specs.BigEndian.{be}
-use Rattle.words.proofs.Laws.{length-be, sets-append}
-use Rattle.replica.specs.Charges.{Charge}
-use Rattle.forensics.specs.Findings.{bit, maskOf}
-use Rattle.findings.specs.declared.Row.{Row}
-use Rattle.findings.specs.Rules.{chargeOf}
+use Rattle.forensics.specs.Findings.{maskOf}
+use Rattle.charges.specs.declared.Row.{Row}
+use Rattle.charges.specs.Charges.{chargeOf}
 use Rattle.report.specs.Report.{Answer, rowBytes, reportBytes}
+use Rattle.rows.proofs.Bytes.{length-rows}
 use Rattle.writing.specs.Answers.{answered}
-
--- ---- a row
-
-pub charge-none : (row : Row) → row .rule ≡ 0 → chargeOf row ≡ none
-unfolding chargeOf
-charge-none row e = rw (eq-eqb (row .rule) 0 e)
-
-pub charge-some : (row : Row) → (row .rule ≡ 0 → ⊥) → chargeOf row ≡ some (record { rule = row .rule; term = row .term })
-unfolding chargeOf
-charge-some row e = rw (ne-eqb (row .rule) 0 e)
-
-pub length-row : (x : Option Charge) → length (rowBytes x) ≡ 5
-unfolding rowBytes be
-length-row none = refl
-length-row (some c) = refl
-
--- ---- the rows
-
-pub length-rows : (l : List (Option Charge)) → length (flatMap rowBytes l) ≡ 5 * length l
-unfolding flatMap
-length-rows [] = refl
-length-rows (x ∷ l) = rw (length-append, length-row, length-rows l) (omega arith)
-
-joined-one : (l : List (Option Charge)) (x : Option Charge) → flatMap rowBytes (l ++ x ∷ []) ≡ flatMap rowBytes l ++ rowBytes x
-unfolding flatMap
-joined-one [] x = append-nil (rowBytes x)
-joined-one (y ∷ l) x = rw (joined-one l x) (sym (append-assoc (rowBytes y) (flatMap rowBytes l) (rowBytes x)))
-
--- ---- the named boards
-
-bit-lt : (x : Option Charge) → bit x < 2
-unfolding bit
-bit-lt none = lit< tt
-bit-lt (some c) = lit< tt
-
-mask-lt : (l : List (Option Charge)) → maskOf l < 2 ^ length l
-unfolding maskOf
-mask-lt [] = lit< tt
-mask-lt (x ∷ l) = let b = bit-lt x in let m = mask-lt l in rw pow-suc (omega arith)
-
--- the highest board first
-pub mask-step : (rows : List Row) (k : ℕ) (d : Row) → k < length rows
-    → maskOf (map chargeOf (drop k rows)) ≡ bit (chargeOf (getD rows k d)) + 2 * maskOf (map chargeOf (drop (suc k) rows))
-unfolding maskOf
-mask-step rows k d h = rw (drop-cons rows k d h)
-
-pub next-bit : (rows : List Row) (k mask b : ℕ) (d : Row) → 0 < k → k ≤ length rows → mask ≡ maskOf (map chargeOf (drop k rows))
-    → b ≡ bit (chargeOf (getD rows (k - 1) d)) → mask * 2 + b ≡ maskOf (map chargeOf (drop (k - 1) rows))
-next-bit rows k mask b d h long e f =
-    let after : suc (k - 1) ≡ k = omega arith in
-    let step = rw after at (mask-step rows (k - 1) d (omega arith)) in
-    rw step (omega arith)
-
--- the boards from the second on leave room for one more bit
-pub mask-small : (rows : List Row) (k : ℕ) → length rows ≡ 9 → 0 < k → maskOf (map chargeOf (drop k rows)) < 256
-mask-small rows k long h =
-    let count : length (map chargeOf (drop k rows)) ≡ 9 - k = length-map (drop k rows) chargeOf ∙ length-drop k rows ∙ ap (λ (n : ℕ). n - k) long in
-    let bound : length (map chargeOf (drop k rows)) ≤ 8 = omega arith in
-    lt-of-lt-of-le (mask-lt (map chargeOf (drop k rows))) (pow-le-pow-right (lit< tt) bound)
-
--- ---- parts written one after the other
-
-pub put-two : (e xs ys : List ℕ) (at k : ℕ) → length xs ≡ k → sets (sets e at xs) (at + k) ys ≡ sets e at (xs ++ ys)
-put-two e xs ys at k h = rw (← h) (sym (sets-append e at xs ys))
-
-pub put-row : (e : List ℕ) (at rule term : ℕ) → sets (sets e at (be 1 rule)) (at + 1) (be 4 term) ≡ sets e at (be 1 rule ++ be 4 term)
-put-row e at rule term = put-two e (be 1 rule) (be 4 term) at 1 (length-be 1 rule)
-
-pub rows-none : (e : List ℕ) → e ≡ sets e 8 (flatMap rowBytes [])
-unfolding flatMap
-rows-none e = refl
-
-more-rows : (rows : List Row) (i : ℕ) (d : Row) → i < length rows
-    → flatMap rowBytes (map chargeOf (take (i + 1) rows)) ≡ flatMap rowBytes (map chargeOf (take i rows)) ++ rowBytes (chargeOf (getD rows i d))
-more-rows rows i d h =
-    rw (add-one, take-suc rows i d h, map-append, joined-one (map chargeOf (take i rows)) (chargeOf (getD rows i d)))
-
--- one row more
-pub rows-more : (e e₁ e₂ : List ℕ) (rows : List Row) (i : ℕ) (d : Row) → i < length rows
-    → e₁ ≡ sets e 8 (flatMap rowBytes (map chargeOf (take i rows))) → e₂ ≡ sets e₁ (8 + 5 * i) (rowBytes (chargeOf (getD rows i d)))
-    → (length e₂ ≡ length e) × (e₂ ≡ sets e 8 (flatMap rowBytes (map chargeOf (take (i + 1) rows))))
-rows-more e e₁ e₂ rows i d h p₁ p₂ =
-    let before = map chargeOf (take i rows) in
-    let row = rowBytes (chargeOf (getD rows i d)) in
-    let long : length (flatMap rowBytes before) ≡ 5 * i =
-    length-rows before ∙ ap (λ (n : ℕ). 5 * n) (length-map (take i rows) chargeOf ∙ length-take-le i rows (omega arith)) in
-    let put : e₂ ≡ sets e 8 (flatMap rowBytes before ++ row) =
-    p₂ ∙ ap (λ (x : List ℕ). sets x (8 + 5 * i) row) p₁ ∙ put-two e (flatMap rowBytes before) row 8 (5 * i) long in
-    (ap length put ∙ length-sets e 8 (flatMap rowBytes before ++ row), put ∙ ap (sets e 8) (sym (more-rows rows i d h)))
 
 pub head-parts : (e e₁ e₂ e₃ e₄ : List ℕ) (n s f m : ℕ) → e₁ ≡ sets e 0 (be 1 n) → e₂ ≡ sets e₁ 1 (be 1 s) → e₃ ≡ sets e₂ 2 (be 4 f)
     → e₄ ≡ sets e₃ 6 (be 2 m) → e₄ ≡ sets e 0 (be 1 n ++ be 1 s ++ be 4 f ++ be 2 m)

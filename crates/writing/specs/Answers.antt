@@ -1,9 +1,9 @@
 -- The report's answer, from findings as the code holds them (document 01, "The report").
 use mathlib.Core.List.{List, map}
 use Prim.Native.Nat.{ℕ}
-use Rattle.findings.specs.declared.Row.{Row}
-use Rattle.findings.specs.declared.Findings.{Findings}
-use Rattle.findings.specs.Rules.{chargeOf, findingsOf}
+use Rattle.charges.specs.declared.Row.{Row}
+use Rattle.charges.specs.declared.Findings.{Findings}
+use Rattle.charges.specs.Charges.{chargeOf, findingsOf}
 use Rattle.report.specs.Report.{Answer}
 
 -- number, where, fork index and rows

@@ -6,8 +6,8 @@ use native.Mathlib.Omega.{arith}
 use borrow.Author.Needs.{needs}
 use lib.ListN.{length}
 use Rattle.lines.specs.Lines.{boardLines}
-use Rattle.lines.specs.Put.{Put}
-use Rattle.lines.proofs.Puts.{put-length}
+use Rattle.decimal.specs.Put.{Put}
+use Rattle.decimal.proofs.Puts.{put-length}
 use Rattle.lines.proofs.Boards.{no-boards, next-board}
 use Rattle.lines.proofs.put_boards.Statement.{statement}
 use Rattle.lines.proofs.put_boards.Tie as tie

@@ -2,8 +2,9 @@
 -- Assumes nothing.
 use mathlib.Core.Path.{ap}
 use borrow.Author.Needs.{needs}
-use Rattle.lines.specs.Lines.{lines, forkLine}
-use Rattle.lines.proofs.Puts.{put-then, put-same}
+use Rattle.texts.specs.Texts.{forkLine}
+use Rattle.lines.specs.Lines.{lines}
+use Rattle.decimal.proofs.Puts.{put-then, put-same}
 use Rattle.lines.proofs.Boards.{refusal-of}
 use Rattle.lines.proofs.put_lines.Statement.{statement}
 use Rattle.lines.proofs.put_lines.Tie as tie

@@ -4,7 +4,7 @@ use borrow.Author.Tests.{not-true, not-false}
 use borrow.Author.Needs.{needs}
 use Rattle.roster.specs.Masks.{signer}
 use Rattle.lines.proofs.Boards.{told, unnamed, named}
-use Rattle.lines.proofs.Puts.{put-none, put-same}
+use Rattle.decimal.proofs.Puts.{put-none, put-same}
 use Rattle.lines.proofs.put_named.Statement.{statement}
 use Rattle.lines.proofs.put_named.Tie as tie
 

@@ -2,7 +2,7 @@
 -- Assumes nothing.
 use mathlib.Core.Path.{refl}
 use borrow.Author.Needs.{needs}
-use Rattle.findings.specs.Rules.{findingsOf}
+use Rattle.charges.specs.Charges.{findingsOf}
 use Rattle.writing.specs.Answers.{answered, accepted}
 use Rattle.writing.proofs.write_accepted.Statement.{statement}
 use Rattle.writing.proofs.write_accepted.Tie as tie

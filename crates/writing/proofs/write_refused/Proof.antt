@@ -2,7 +2,7 @@
 -- Assumes nothing.
 use mathlib.Core.Path.{refl}
 use borrow.Author.Needs.{needs}
-use Rattle.findings.specs.Rules.{chargeOf}
+use Rattle.charges.specs.Charges.{chargeOf}
 use Rattle.report.specs.Report.{refused}
 use Rattle.writing.specs.Answers.{answered}
 use Rattle.writing.proofs.write_refused.Statement.{statement}

@@ -3,9 +3,10 @@
 use native.Mathlib.Omega.{arith}
 use Rattle.forensics.specs.Findings.{lowest}
 use Rattle.replica.specs.Charges.{charge}
-use Rattle.findings.specs.declared.Receipts.the-variants.{Given}
-use Rattle.findings.specs.Rules.{chargeOf, forgotten, afterReceipts}
-use Rattle.findings.specs.Tenures.{tenuresOf}
+use Rattle.charges.specs.declared.Receipts.the-variants.{Given}
+use Rattle.rules.specs.Rules.{forgotten}
+use Rattle.charges.specs.Charges.{chargeOf, afterReceipts}
+use Rattle.tenures.specs.Tenures.{tenuresOf}
 use Rattle.findings.proofs.Left.{RowsLeft, rows-all, first-inside, next-inside, rows-next, rows-done}
 use borrow.Author.Needs.{needs}
 use Rattle.findings.proofs.rows.after_given.Statement.{statement}

@@ -1,10 +1,10 @@
 -- Without a commit certificate there is no receipt, and nobody is charged.
 -- Assumes nothing.
 use mathlib.Core.Path.{sym, ap, _∙_}
-use Rattle.findings.specs.declared.Receipts.{Receipts}
+use Rattle.charges.specs.declared.Receipts.{Receipts}
 use Rattle.forensics.specs.Findings.{lowest}
-use Rattle.findings.specs.Rules.{afterReceipts}
-use Rattle.findings.specs.Tenures.{tenuresOf}
+use Rattle.charges.specs.Charges.{afterReceipts}
+use Rattle.tenures.specs.Tenures.{tenuresOf}
 use borrow.Author.Needs.{needs}
 use Rattle.findings.proofs.rows.after_receipts.Statement.{statement}
 use Rattle.findings.proofs.rows.after_receipts.Tie as tie

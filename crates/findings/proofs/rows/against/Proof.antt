@@ -3,8 +3,8 @@
 use mathlib.Core.List.{flatMap}
 use native.Mathlib.Omega.{arith}
 use Rattle.forensics.specs.Findings.{lowest}
-use Rattle.findings.specs.Rules.{chargeOf, between}
-use Rattle.findings.specs.Tenures.{tenuresOf}
+use Rattle.charges.specs.Charges.{chargeOf, between}
+use Rattle.tenures.specs.Tenures.{tenuresOf}
 use Rattle.findings.proofs.Left.{RowsLeft, rows-all, first-inside, next-inside, rows-next, rows-done}
 use borrow.Author.Needs.{needs}
 use Rattle.findings.proofs.rows.against.Statement.{statement}

@@ -1,7 +1,7 @@
 -- Rules 1 and 2, then rule 3, then rule 4: the lowest is the lower of them.
 -- Assumes nothing.
-use Rattle.findings.specs.Rules.{ruledBy}
-use Rattle.findings.proofs.Charged.{joined}
+use Rattle.charges.specs.Charges.{ruledBy}
+use Rattle.charges.proofs.Rows.{joined}
 use borrow.Author.Needs.{needs}
 use Rattle.findings.proofs.rows.row.Statement.{statement}
 use Rattle.findings.proofs.rows.row.Tie as tie

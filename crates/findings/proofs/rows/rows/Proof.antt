@@ -4,8 +4,8 @@ use mathlib.Core.Path.{refl}
 use Prim.Native.Nat.{_-_}
 use native.Mathlib.Omega.{arith}
 use Rattle.forensics.specs.Findings.{lowest}
-use Rattle.findings.specs.Rules.{ruledBy, rowsBy}
-use Rattle.findings.specs.Tenures.{tenuresOf}
+use Rattle.charges.specs.Charges.{ruledBy, rowsBy}
+use Rattle.tenures.specs.Tenures.{tenuresOf}
 use Rattle.findings.proofs.Boards.{Filled, fill, filled}
 use Rattle.findings.proofs.rows.rows.Statement.{statement}
 use Rattle.findings.proofs.rows.rows.Tie as tie

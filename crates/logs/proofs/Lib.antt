@@ -1,0 +1,2 @@
+pub mod Differ
+mod Steps

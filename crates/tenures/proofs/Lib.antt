@@ -1,0 +1,2 @@
+mod Committed
+mod Numbers
