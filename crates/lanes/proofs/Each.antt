@@ -1,13 +1,12 @@
 -- What is so in each of the four lanes is so in every lane.
 -- Assumes nothing.
 use mathlib.Core.Path.{_≡_, refl}
-use mathlib.Core.List.{List, _∷_}
+use mathlib.Core.List.{List}
 use Prim.Native.Nat.{ℕ}
 use lib.ListN.{length, getD}
 use Rattle.sha256.specs.declared.State.{State}
 use Rattle.sha256.specs.Sha256.{round}
-use Rattle.lanes.specs.Lane.{Lane, first, second, third, fourth, pick, lane, windowAt}
-use Rattle.lanes.specs.declared.Pair.{Pair}
+use Rattle.lanes.specs.Lane.{Lane, first, second, third, fourth, pick, lane}
 
 pub each : (P : Lane → Type 0) → P first → P second → P third → P fourth → (l : Lane) → P l
 each P a b c d first = a

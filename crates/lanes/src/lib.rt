@@ -47,7 +47,7 @@ fn mix(w16: Lanes, w15: Lanes, w7: Lanes, w2: Lanes) -> Lanes
     )
 }
 
-// The working variables of each lane.
+// The working variables of each lane, written out four times, since no variable can name a field.
 fn states(p3: Pair, p2: Pair, p1: Pair, p0: Pair) -> Four
     ensures { λ r. ⌜ ((l : Lane) → state l r ≡ window l p3 p2 p1 p0) ⌝ }
 {

@@ -1,10 +1,9 @@
 -- Steps of a chain in runs are its steps in one.
 -- Assumes nothing.
-use mathlib.Core.Path.{_≡_, sym, _∙_}
+use mathlib.Core.Path.{_≡_}
 use mathlib.Core.List.{List, _++_}
 use Prim.Native.Nat.{ℕ, zero, suc, _+_}
 use native.Mathlib.Nat.{zero-add, add-zero, add-suc, suc-add}
-use native.Mathlib.Numerals.{add-one}
 use Rattle.words.specs.BigEndian.{be}
 use Rattle.lm_hash.specs.Tagged.{tagged}
 use Rattle.lm_chain.specs.Chain.{stepped, chain}

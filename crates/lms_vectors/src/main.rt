@@ -44,7 +44,7 @@ fn print_line(text: &[u8]) {
     print_answer(lms::check(&key[..k], &message[..m], &signature[..s]));
 }
 
-// Prints the answer for each line.
+// Prints the answer for each line. (`sha256_vectors` has the same loop around another function: Rattle has no function parameters.)
 fn print_lines(text: &[u8]) {
     let mut at = 0;
     while at < text.len() {

@@ -1,7 +1,6 @@
 -- The five rounds that are shared, and the others.
 -- Assumes nothing.
 use mathlib.Core.Path.{ap, _∙_, sym}
-use native.Mathlib.Omega.{arith}
 use borrow.Author.Needs.{needs}
 use Rattle.sha256.specs.declared.State.{State}
 use Rattle.sha256.specs.Sha256.{plus, rounds, schedule, compress}

@@ -1,11 +1,8 @@
 -- The four words as they stand.
 -- Assumes nothing.
-use mathlib.Core.Path.{refl, ap}
-use mathlib.Core.Path.{sym}
+use mathlib.Core.Path.{refl}
 use native.Mathlib.Nat.{add-zero}
 use native.Mathlib.Omega.{arith}
-use Prim.Native.Nat.{ℕ, _*_}
-use lib.ListN.{getD}
 use Rattle.lanes.specs.Lane.{lane, pick, place, wordIn}
 use Rattle.lanes.proofs.Each.{each}
 use Rattle.lanes.proofs.at.Statement.{statement}

@@ -1,7 +1,6 @@
 -- The eight working variables, a pair after the other.
 -- Assumes nothing.
 use native.Mathlib.Omega.{arith}
-use Rattle.lanes.specs.Lane.{wordIn}
 use Rattle.lanes.proofs.Turns.{started}
 use Rattle.lanes.proofs.start.Statement.{statement}
 use Rattle.lanes.proofs.start.Tie as tie
