@@ -3,43 +3,20 @@
 -- Assumes nothing.
 use mathlib.Core.Path.{_≡_, sym, ap, _∙_}
 use mathlib.Core.List.{List}
-use Prim.Native.Nat.{ℕ, zero, suc, _+_, _-_, _*_, _/_, _^_, _≤_, _<_}
-use native.Mathlib.Nat.{le-div-iff-mul-le, one-mul, mul-comm, pow-suc, div-one, div-le-self}
+use Prim.Native.Nat.{ℕ, zero, suc, _+_, _-_, _/_, _^_, _≤_, _<_}
+use native.Mathlib.Nat.{one-mul, div-one, div-le-self}
 use native.Mathlib.Omega.{arith}
 use lib.ListN.{take, drop}
 use lib.Seq.{drop-drop}
-use lib.Pow.{pow-pos, pow-mono, high, shr-shr}
+use lib.Pow.{high, shr-shr}
 use Rattle.lm_hash.specs.Tagged.{tagged}
 use Rattle.lm_tree.specs.Tree.{D-LEAF, parent, climb, root}
 
 -- ---- the number of a node
 
--- the number after k turns
-unfoldable pub halved : ℕ → ℕ → ℕ
-halved zero node = node
-halved (suc k) node = halved k (node / 2)
-
-pub halved-pow : (k node : ℕ) → halved k node ≡ node / 2 ^ k
-unfolding halved
-halved-pow zero node = sym (div-one node)
-halved-pow (suc k) node = halved-pow k (node / 2) ∙ shr-shr node 1 k ∙ ap (λ (n : ℕ). node / 2 ^ n) (omega arith)
-
-module _ (h q : ℕ) (inside : q < 2 ^ h) where
-  -- h turns lead to the root, which has the number 1
-  pub last-node : (2 ^ h + q) / 2 ^ h ≡ 1
-  last-node = ap (λ (n : ℕ). (n + q) / 2 ^ h) (sym (one-mul (2 ^ h))) ∙ high 1 h inside
-
-  -- and fewer do not
-  pub earlier-node : (k : ℕ) → k < h → 1 < (2 ^ h + q) / 2 ^ k
-  earlier-node k less =
-      let twice : 2 * 2 ^ k ≤ 2 ^ h = rw (mul-comm 2 (2 ^ k), ← pow-suc 2 k) (pow-mono less) in
-      le-div-iff-mul-le (pow-pos k) .1 (omega arith)
-
-  pub last-halved : halved h (2 ^ h + q) ≡ 1
-  last-halved = halved-pow h (2 ^ h + q) ∙ last-node
-
-  pub earlier-halved : (k : ℕ) → k < h → 1 < halved k (2 ^ h + q)
-  earlier-halved k less = rw (halved-pow k (2 ^ h + q)) (earlier-node k less)
+-- h turns lead to the root, which has the number 1
+pub last-node : (h q : ℕ) → q < 2 ^ h → (2 ^ h + q) / 2 ^ h ≡ 1
+last-node h q inside = ap (λ (n : ℕ). (n + q) / 2 ^ h) (sym (one-mul (2 ^ h))) ∙ high 1 h inside
 
 -- ---- one level
 
