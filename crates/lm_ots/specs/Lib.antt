@@ -1,2 +1,1 @@
 pub mod Candidate
-pub mod Values
