@@ -1,4 +1,2 @@
-pub mod Each
-pub mod Places
-mod Rotations
+mod Moved
 mod Turns

@@ -11,9 +11,9 @@ use Rattle.sha256.specs.declared.State.{State}
 use Rattle.sha256_tables.specs.Constants.{constants}
 use Rattle.sha256.specs.Sha256.{_⊞_, σ₀, σ₁, nextWord, extend, schedule, round, rounds}
 use Rattle.sha256.proofs.Rounds.{rounds-add}
-use Rattle.lanes.specs.declared.Pair.{Pair}
+use Rattle.lane_words.specs.declared.Pair.{Pair}
 use Rattle.lanes.specs.Lane.{Lane, lane, window, windowAt, changed}
-use Rattle.lanes.proofs.Places.{changed-same, changed-other, filled-to}
+use Rattle.lane_words.proofs.Places.{changed-same, changed-other, filled-to}
 
 -- ---- the schedule's words
 

@@ -1,30 +1,10 @@
--- Four words, four hash values or four blocks side by side, one in each lane.
-use mathlib.Core.Bool.{cond}
-use mathlib.Core.List.{List}
+-- Four hash values or four blocks side by side, one in each lane.
 use Prim.Native.Nat.{ℕ, _+_, _*_}
-use lib.Dec.{eqb}
-use lib.ListN.{getD}
 use Rattle.sha256.specs.declared.State.{State}
-use Rattle.lanes.specs.declared.Lanes.{Lanes}
-use Rattle.lanes.specs.declared.Pair.{Pair}
+use Rattle.lane_words.specs.declared.Pair.{Pair}
 use Rattle.lanes.specs.declared.Four.{Four}
-
-pub data Lane : Type 0 where
-  first : Lane
-  second : Lane
-  third : Lane
-  fourth : Lane
-
--- the one of four that stands in a lane
-unfoldable pub pick : {A : Type 0} → Lane → A → A → A → A → A
-pick first a b c d = a
-pick second a b c d = b
-pick third a b c d = c
-pick fourth a b c d = d
-
--- the word in a lane
-unfoldable pub lane : Lane → Lanes → ℕ
-lane l v = pick l (v .0) (v .1) (v .2) (v .3)
+pub use Rattle.lane_words.specs.Lane.{Lane, first, second, third, fourth}
+unfoldable pub use Rattle.lane_words.specs.Lane.{pick, lane, place, wordIn, changed}
 
 -- the hash value in a lane
 unfoldable pub state : Lane → Four → State
@@ -45,17 +25,6 @@ window l p3 p2 p1 p0 =
       h = lane l (p0 .e);
     }
 
--- the number of a lane
-unfoldable pub place : Lane → ℕ
-place first = 0
-place second = 1
-place third = 2
-place fourth = 3
-
--- the word of a lane at place i of a list in which the words of the four lanes stand side by side
-unfoldable pub wordIn : Lane → List ℕ → ℕ → ℕ
-wordIn l w i = getD w (4 * i + place l) 0
-
 -- the working variables before round i, where v has a and e one after the other, from the oldest on
 unfoldable pub windowAt : (ℕ → ℕ) → ℕ → State
 windowAt v i =
@@ -69,7 +38,3 @@ windowAt v i =
       g = v (2 * (i + 1) + 1);
       h = v (2 * i + 1);
     }
-
--- what stands at each place, where that at place i is made z
-unfoldable pub changed : {A : Type 0} → ℕ → A → (ℕ → A) → ℕ → A
-changed i z f k = cond (eqb k i) z (f k)

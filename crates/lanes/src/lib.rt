@@ -8,44 +8,13 @@ ghost use Rattle.sha256_tables.specs.Constants.{constants};
 ghost use Rattle.sha256.specs.Sha256 as fips;
 ghost use Rattle.sha256.specs.Sha256.{_⊞_, σ₀, σ₁};
 ghost use Rattle.lanes.specs.Lane.{Lane, pick, lane, state, window, wordIn, windowAt, changed};
-
-mod functions;
-
-use functions::round;
-use functions::word;
+use lane_words::Lanes;
+use lane_words::Pair;
+use lane_words::functions::round;
 use sha256::State;
-
-// A word in each lane.
-pub struct Lanes(pub u32, pub u32, pub u32, pub u32);
 
 // A hash value in each lane.
 pub struct Four(pub State, pub State, pub State, pub State);
-
-// The working variables a and e after a round (FIPS 180-4, 6.2.2); the others are older values of
-// these two.
-pub struct Pair {
-    pub a: Lanes,
-    pub e: Lanes,
-}
-
-fn same(x: u32) -> Lanes
-    ensures { λ r. ⌜ ((l : Lane) → lane l r ≡ x) ⌝ }
-{
-    Lanes(x, x, x, x)
-}
-
-// A word of the schedule from those 16, 15, 7 and 2 places before it, in each lane (FIPS 180-4, 6.2.2,
-// step 1).
-fn mix(w16: Lanes, w15: Lanes, w7: Lanes, w2: Lanes) -> Lanes
-    ensures { λ r. ⌜ ((l : Lane) → lane l r ≡ σ₁ (lane l w2) ⊞ lane l w7 ⊞ σ₀ (lane l w15) ⊞ lane l w16) ⌝ }
-{
-    Lanes(
-        word(w16.0, w15.0, w7.0, w2.0),
-        word(w16.1, w15.1, w7.1, w2.1),
-        word(w16.2, w15.2, w7.2, w2.2),
-        word(w16.3, w15.3, w7.3, w2.3),
-    )
-}
 
 // The working variables of each lane, written out four times, since no variable can name a field.
 fn states(p3: Pair, p2: Pair, p1: Pair, p0: Pair) -> Four
@@ -95,46 +64,6 @@ fn states(p3: Pair, p2: Pair, p1: Pair, p0: Pair) -> Four
     )
 }
 
-// The words at place i of a list in which four stand side by side.
-fn at(w: &[u32], i: usize) -> Lanes
-    requires { ⌜ 4 * i + 4 ≤ length (now w) ⌝ }
-    ensures { λ r. ⌜ ((l : Lane) → lane l r ≡ wordIn l (now (w .entry)) i) ⌝ }
-{
-    let n = 4 * i;
-    Lanes(w[n], w[n + 1], w[n + 2], w[n + 3])
-}
-
-fn put(w: &mut [u32], i: usize, v: Lanes)
-    requires { ⌜ 4 * i + 4 ≤ length (now w) ⌝ }
-    ensures { λ _. ⌜ ((l : Lane) (k : ℕ) → wordIn l (now (w .exit)) k ≡ changed i (lane l v) (wordIn l (now (w .entry))) k) ⌝ }
-{
-    let n = 4 * i;
-    w[n] = v.0;
-    w[n + 1] = v.1;
-    w[n + 2] = v.2;
-    w[n + 3] = v.3;
-}
-
-// The values of a and e at place i of a list in which they stand one after the other.
-fn pair_at(x: &[u32], i: usize) -> Pair
-    requires { ⌜ 8 * i + 8 ≤ length (now x) ⌝ }
-    ensures { λ r. ⌜ ((l : Lane) → (lane l (r .a) ≡ wordIn l (now (x .entry)) (2 * i)) × (lane l (r .e) ≡ wordIn l (now (x .entry)) (2 * i + 1))) ⌝ }
-{
-    Pair {
-        a: at(x, 2 * i),
-        e: at(x, 2 * i + 1),
-    }
-}
-
-fn put_pair(x: &mut [u32], i: usize, p: Pair)
-    requires { ⌜ 8 * i + 8 ≤ length (now x) ⌝ }
-    ensures { λ _. ⌜ ((l : Lane) (k : ℕ) → wordIn l (now (x .exit)) k
-        ≡ changed (2 * i + 1) (lane l (p .e)) (changed (2 * i) (lane l (p .a)) (wordIn l (now (x .entry)))) k) ⌝ }
-{
-    put(x, 2 * i, p.a);
-    put(x, 2 * i + 1, p.e);
-}
-
 // One round in each lane: a and e after it.
 fn step(p3: Pair, p2: Pair, p1: Pair, p0: Pair, k: Lanes, w: Lanes) -> Pair
     ensures { λ r. ⌜ ((l : Lane) → window l r p3 p2 p1 ≡ fips.round (window l p3 p2 p1 p0) (lane l k) (lane l w)) ⌝ }
@@ -158,7 +87,7 @@ pub fn table() -> [u32; 256]
     let mut r = [0u32; 256];
     let mut i = 0;
     while i < 64 {
-        put(&mut r, i, same(k[i]));
+        lane_words::put(&mut r, i, lane_words::same(k[i]));
         i += 1;
     }
     r
@@ -171,21 +100,9 @@ fn load(b0: [u32; 16], b1: [u32; 16], b2: [u32; 16], b3: [u32; 16], w: &mut [u32
 {
     let mut i = 0;
     while i < 16 {
-        put(w, i, Lanes(b0[i], b1[i], b2[i], b3[i]));
+        lane_words::put(w, i, Lanes(b0[i], b1[i], b2[i], b3[i]));
         i += 1;
     }
-}
-
-// Puts values of a and e, the same in each lane.
-fn put_same(x: &mut [u32], i: usize, a: u32, e: u32)
-    requires { ⌜ 8 * i + 8 ≤ length (now x) ⌝ }
-    ensures { λ _. ⌜ ((l : Lane) (k : ℕ) → wordIn l (now (x .exit)) k ≡ changed (2 * i + 1) e (changed (2 * i) a (wordIn l (now (x .entry)))) k) ⌝ }
-{
-    let p = Pair {
-        a: same(a),
-        e: same(e),
-    };
-    put_pair(x, i, p);
 }
 
 // Makes the working variables before round 5 the same in each lane.
@@ -193,10 +110,10 @@ fn start(u: State, x: &mut [u32])
     requires { ⌜ length (now x) ≡ 544 ⌝ }
     ensures { λ _. ⌜ ((l : Lane) → windowAt (wordIn l (now (x .exit))) 5 ≡ u) ⌝ }
 {
-    put_same(x, 5, u.d, u.h);
-    put_same(x, 6, u.c, u.g);
-    put_same(x, 7, u.b, u.f);
-    put_same(x, 8, u.a, u.e);
+    lane_words::put_same(x, 5, u.d, u.h);
+    lane_words::put_same(x, 6, u.c, u.g);
+    lane_words::put_same(x, 7, u.b, u.f);
+    lane_words::put_same(x, 8, u.a, u.e);
 }
 
 // Makes blocks and working variables those that the rounds begin with.
@@ -224,8 +141,13 @@ fn word_at(w: &mut [u32], i: usize)
     ensures { λ _. ⌜ ((l : Lane) (k : ℕ) → let v = wordIn l (now (w .entry)) in
         wordIn l (now (w .exit)) k ≡ changed i (σ₁ (v (i - 2)) ⊞ v (i - 7) ⊞ σ₀ (v (i - 15)) ⊞ v (i - 16)) v k) ⌝ }
 {
-    let v = mix(at(w, i - 16), at(w, i - 15), at(w, i - 7), at(w, i - 2));
-    put(w, i, v);
+    let v = lane_words::mix(
+        lane_words::at(w, i - 16),
+        lane_words::at(w, i - 15),
+        lane_words::at(w, i - 7),
+        lane_words::at(w, i - 2),
+    );
+    lane_words::put(w, i, v);
 }
 
 // Round i of each lane (FIPS 180-4, 6.2.2, step 3). `x` has the values of a and e, from the oldest on: those of
@@ -235,11 +157,15 @@ fn round_at(k: &[u32], w: &[u32], x: &mut [u32], i: usize)
     ensures { λ _. ⌜ ((l : Lane) → windowAt (wordIn l (now (x .exit))) (i + 1)
         ≡ fips.round (windowAt (wordIn l (now (x .entry))) i) (wordIn l (now (k .entry)) i) (wordIn l (now (w .entry)) i)) ⌝ }
 {
-    let p0 = pair_at(x, i);
-    let p1 = pair_at(x, i + 1);
-    let p2 = pair_at(x, i + 2);
-    let p3 = pair_at(x, i + 3);
-    put_pair(x, i + 4, step(p3, p2, p1, p0, at(k, i), at(w, i)));
+    let p0 = lane_words::pair_at(x, i);
+    let p1 = lane_words::pair_at(x, i + 1);
+    let p2 = lane_words::pair_at(x, i + 2);
+    let p3 = lane_words::pair_at(x, i + 3);
+    lane_words::put_pair(
+        x,
+        i + 4,
+        step(p3, p2, p1, p0, lane_words::at(k, i), lane_words::at(w, i)),
+    );
 }
 
 // Rounds 5 to 63 in each lane, of blocks that are the first sixteen words of `w` (FIPS 180-4, 6.2.2, steps 1 to 3).
@@ -270,10 +196,10 @@ fn sums(s: State, x: &[u32]) -> Four
     ensures { λ r. ⌜ ((l : Lane) → state l r ≡ fips.plus (windowAt (wordIn l (now (x .entry))) 64) s) ⌝ }
 {
     let r = states(
-        pair_at(x, 67),
-        pair_at(x, 66),
-        pair_at(x, 65),
-        pair_at(x, 64),
+        lane_words::pair_at(x, 67),
+        lane_words::pair_at(x, 66),
+        lane_words::pair_at(x, 65),
+        lane_words::pair_at(x, 64),
     );
     Four(r.0.plus(s), r.1.plus(s), r.2.plus(s), r.3.plus(s))
 }

@@ -9,8 +9,8 @@ ghost use Rattle.sha256.specs.Sha256.{rounds, initial, parse, padding, bytesOf}
 ghost use Rattle.lm_hash.specs.Identifier.{identifier};
 ghost use Rattle.lanes.specs.Lane.{Lane, lane, state, wordIn};
 ghost use Rattle.lm_chain.specs.Chain.{stepped, chain, front};
+use lane_words::Lanes;
 use lanes::Four;
-use lanes::Lanes;
 use lm_hash::Leaf;
 use sha256::State;
 use sha256_tables::K;

@@ -8,8 +8,8 @@ ghost use Rattle.lm_hash.specs.Identifier.{identifier};
 ghost use Rattle.lm_chain.specs.Chain.{chain};
 ghost use Rattle.lm_values.specs.Values.{valueAt};
 ghost use Rattle.lm_turns.specs.Ahead.{ahead};
+use lane_words::Lanes;
 use lanes::Four;
-use lanes::Lanes;
 use lm_hash::Leaf;
 
 // Makes the next steps of four chains others.

@@ -2,7 +2,7 @@
 -- Assumes nothing.
 use native.Mathlib.Omega.{arith}
 use borrow.Author.Needs.{needs}
-use Rattle.lanes.proofs.Each.{lengths}
+use Rattle.lane_words.proofs.Each.{lengths}
 use Rattle.lanes.proofs.fill.Statement.{statement}
 use Rattle.lanes.proofs.fill.Tie as tie
 

@@ -5,8 +5,8 @@ use mathlib.Core.Path.{_≡_}
 use native.Mathlib.Omega.{arith}
 use lib.ListN.{length, getD}
 use Rattle.lanes.specs.Lane.{Lane, pick, wordIn}
-use Rattle.lanes.proofs.Each.{picked}
-use Rattle.lanes.proofs.Places.{filled-to}
+use Rattle.lane_words.proofs.Each.{picked}
+use Rattle.lane_words.proofs.Places.{filled-to}
 use Rattle.lanes.proofs.load.Statement.{statement}
 use Rattle.lanes.proofs.load.Tie as tie
 

@@ -2,7 +2,7 @@
 -- Assumes nothing.
 use mathlib.Core.Path.{refl}
 use Rattle.lanes.specs.Lane.{lane, pick, state, window}
-use Rattle.lanes.proofs.Each.{each}
+use Rattle.lane_words.proofs.Each.{each}
 use Rattle.lanes.proofs.states.Statement.{statement}
 use Rattle.lanes.proofs.states.Tie as tie
 

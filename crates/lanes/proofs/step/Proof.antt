@@ -5,7 +5,8 @@ use mathlib.Core.Path.{ap, _∙_}
 use Rattle.sha256.specs.declared.State.{State}
 use Rattle.sha256.specs.Sha256.{round}
 use Rattle.lanes.specs.Lane.{first, second, third, fourth, lane, pick, state, window}
-use Rattle.lanes.proofs.Each.{each, moved}
+use Rattle.lane_words.proofs.Each.{each}
+use Rattle.lanes.proofs.Moved.{moved}
 use Rattle.lanes.proofs.step.Statement.{statement}
 use Rattle.lanes.proofs.step.Tie as tie
 

@@ -5,7 +5,7 @@ use native.Mathlib.Omega.{arith}
 use Rattle.sha256.specs.declared.State.{State}
 use Rattle.sha256.specs.Sha256.{plus}
 use Rattle.lanes.specs.Lane.{Lane, first, second, third, fourth, pick, state, wordIn, windowAt}
-use Rattle.lanes.proofs.Each.{each}
+use Rattle.lane_words.proofs.Each.{each}
 use Rattle.lanes.proofs.Turns.{window-read}
 use Rattle.lanes.proofs.sums.Statement.{statement}
 use Rattle.lanes.proofs.sums.Tie as tie

@@ -7,7 +7,7 @@ use borrow.Author.Needs.{needs}
 use lib.ListN.{length, getD}
 use Rattle.sha256_tables.specs.Constants.{constants}
 use Rattle.lanes.specs.Lane.{Lane, wordIn}
-use Rattle.lanes.proofs.Places.{filled-to}
+use Rattle.lane_words.proofs.Places.{filled-to}
 use Rattle.lanes.proofs.table.Statement.{statement}
 use Rattle.lanes.proofs.table.Tie as tie
 

@@ -4,7 +4,7 @@ use mathlib.Core.Path.{sym, _∙_}
 use borrow.Author.Needs.{needs}
 use Rattle.sha256.specs.Sha256.{rounds}
 use Rattle.lanes.specs.Lane.{first, second, third, fourth, pick, lane, state}
-use Rattle.lanes.proofs.Each.{each}
+use Rattle.lane_words.proofs.Each.{each}
 use Rattle.lm_chain.proofs.StepBlock.{step-result}
 use Rattle.lm_chain.proofs.four.Statement.{statement}
 use Rattle.lm_chain.proofs.four.Tie as tie

@@ -3,7 +3,7 @@
 use mathlib.Core.Path.{refl}
 use native.Mathlib.Omega.{arith}
 use Rattle.lanes.specs.Lane.{first, second, third, fourth, pick, lane}
-use Rattle.lanes.proofs.Each.{each}
+use Rattle.lane_words.proofs.Each.{each}
 use Rattle.lm_chain.proofs.later.Statement.{statement}
 use Rattle.lm_chain.proofs.later.Tie as tie
 

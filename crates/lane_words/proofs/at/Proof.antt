@@ -3,10 +3,10 @@
 use mathlib.Core.Path.{refl}
 use native.Mathlib.Nat.{add-zero}
 use native.Mathlib.Omega.{arith}
-use Rattle.lanes.specs.Lane.{lane, pick, place, wordIn}
-use Rattle.lanes.proofs.Each.{each}
-use Rattle.lanes.proofs.at.Statement.{statement}
-use Rattle.lanes.proofs.at.Tie as tie
+use Rattle.lane_words.specs.Lane.{lane, pick, place, wordIn}
+use Rattle.lane_words.proofs.Each.{each}
+use Rattle.lane_words.proofs.at.Statement.{statement}
+use Rattle.lane_words.proofs.at.Tie as tie
 
 returns : tie.Need-returns
 unfolding lane pick place wordIn

@@ -1,10 +1,10 @@
 -- The promise of each lane's call.
 -- Assumes nothing.
 use borrow.Author.Needs.{needs}
-use Rattle.lanes.specs.Lane.{lane, pick}
-use Rattle.lanes.proofs.Each.{each}
-use Rattle.lanes.proofs.mix.Statement.{statement}
-use Rattle.lanes.proofs.mix.Tie as tie
+use Rattle.lane_words.specs.Lane.{lane, pick}
+use Rattle.lane_words.proofs.Each.{each}
+use Rattle.lane_words.proofs.mix.Statement.{statement}
+use Rattle.lane_words.proofs.mix.Tie as tie
 
 returns : tie.Need-returns
 unfolding lane pick

@@ -3,9 +3,9 @@
 use mathlib.Core.Path.{_∙_}
 use Prim.Native.Nat.{_+_, _*_}
 use native.Mathlib.Omega.{arith}
-use Rattle.lanes.specs.Lane.{wordIn, changed}
-use Rattle.lanes.proofs.put_same.Statement.{statement}
-use Rattle.lanes.proofs.put_same.Tie as tie
+use Rattle.lane_words.specs.Lane.{wordIn, changed}
+use Rattle.lane_words.proofs.put_same.Statement.{statement}
+use Rattle.lane_words.proofs.put_same.Tie as tie
 
 returns : tie.Need-returns
 returns c =

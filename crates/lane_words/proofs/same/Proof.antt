@@ -1,10 +1,10 @@
 -- The same in each lane.
 -- Assumes nothing.
 use mathlib.Core.Path.{refl}
-use Rattle.lanes.specs.Lane.{lane, pick}
-use Rattle.lanes.proofs.Each.{each}
-use Rattle.lanes.proofs.same.Statement.{statement}
-use Rattle.lanes.proofs.same.Tie as tie
+use Rattle.lane_words.specs.Lane.{lane, pick}
+use Rattle.lane_words.proofs.Each.{each}
+use Rattle.lane_words.proofs.same.Statement.{statement}
+use Rattle.lane_words.proofs.same.Tie as tie
 
 returns : tie.Need-returns
 unfolding lane pick

@@ -4,21 +4,13 @@ use mathlib.Core.Path.{_≡_, refl}
 use mathlib.Core.List.{List}
 use Prim.Native.Nat.{ℕ}
 use lib.ListN.{length, getD}
-use Rattle.sha256.specs.declared.State.{State}
-use Rattle.sha256.specs.Sha256.{round}
-use Rattle.lanes.specs.Lane.{Lane, first, second, third, fourth, pick, lane}
+use Rattle.lane_words.specs.Lane.{Lane, first, second, third, fourth, pick, lane}
 
 pub each : (P : Lane → Type 0) → P first → P second → P third → P fourth → (l : Lane) → P l
 each P a b c d first = a
 each P a b c d second = b
 each P a b c d third = c
 each P a b c d fourth = d
-
--- a round is told by a and e: the others are older values
-pub moved : (v r : State) (k w : ℕ) → r ≡ round v k w
-    → record { a = r .a; b = v .a; c = v .b; d = v .c; e = r .e; f = v .e; g = v .f; h = v .g } ≡ round v k w
-unfolding round
-moved v r k w e = rw e
 
 pub lengths : (a b c d : List ℕ) (n : ℕ) → length a ≡ n → length b ≡ n → length c ≡ n → length d ≡ n
     → (l : Lane) → length (pick l a b c d) ≡ n

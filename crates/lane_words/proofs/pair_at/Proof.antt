@@ -1,8 +1,8 @@
 -- The words of a and of e.
 -- Assumes nothing.
 use native.Mathlib.Omega.{arith}
-use Rattle.lanes.proofs.pair_at.Statement.{statement}
-use Rattle.lanes.proofs.pair_at.Tie as tie
+use Rattle.lane_words.proofs.pair_at.Statement.{statement}
+use Rattle.lane_words.proofs.pair_at.Tie as tie
 
 returns : tie.Need-returns
 returns c = λ l. (c .before .at .ensures l, c .at2 .ensures l)

@@ -2,9 +2,9 @@
 -- Assumes nothing.
 use native.Mathlib.Omega.{arith}
 use lib.ListN.{length-set}
-use Rattle.lanes.proofs.Places.{put-words}
-use Rattle.lanes.proofs.put.Statement.{statement}
-use Rattle.lanes.proofs.put.Tie as tie
+use Rattle.lane_words.proofs.Places.{put-words}
+use Rattle.lane_words.proofs.put.Statement.{statement}
+use Rattle.lane_words.proofs.put.Tie as tie
 
 returns : tie.Need-returns
 returns c = let a = c .args in put-words (a .w .now) (a .i) (a .v) (c .pre)

@@ -11,9 +11,9 @@ use borrow.Author.Tests.{eqb-true, eqb-false, ltb-true, ltb-false, eq-eqb, ne-eq
 use lib.Dec.{eqb, ltb}
 use lib.ListN.{length, getD, set, length-set}
 use lib.Seq.{getD-set-same, getD-set-other}
-use Rattle.lanes.specs.declared.Lanes.{Lanes}
-use Rattle.lanes.specs.Lane.{Lane, pick, lane, place, wordIn, changed}
-use Rattle.lanes.proofs.Each.{each}
+use Rattle.lane_words.specs.declared.Lanes.{Lanes}
+use Rattle.lane_words.specs.Lane.{Lane, pick, lane, place, wordIn, changed}
+use Rattle.lane_words.proofs.Each.{each}
 
 pub changed-in : {A : Type 0} (i : ℕ) (z : A) {f g : ℕ → A} → ((k : ℕ) → f k ≡ g k) → (k : ℕ) → changed i z f k ≡ changed i z g k
 unfolding changed

@@ -2,9 +2,9 @@
 -- Assumes nothing.
 use mathlib.Core.Path.{_∙_}
 use native.Mathlib.Omega.{arith}
-use Rattle.lanes.proofs.Places.{changed-in}
-use Rattle.lanes.proofs.put_pair.Statement.{statement}
-use Rattle.lanes.proofs.put_pair.Tie as tie
+use Rattle.lane_words.proofs.Places.{changed-in}
+use Rattle.lane_words.proofs.put_pair.Statement.{statement}
+use Rattle.lane_words.proofs.put_pair.Tie as tie
 
 returns : tie.Need-returns
 returns c = λ l k. c .before .before .put2 .ensures l k ∙ changed-in _ _ (c .before .before .before .before .before .before .put .ensures l) k

@@ -1,8 +1,8 @@
 -- Each call's promise, put together.
 -- Assumes nothing.
 use borrow.Author.Needs.{needs}
-use Rattle.lanes.proofs.functions.word.Statement.{statement}
-use Rattle.lanes.proofs.functions.word.Tie as tie
+use Rattle.lane_words.proofs.functions.word.Statement.{statement}
+use Rattle.lane_words.proofs.functions.word.Tie as tie
 
 returns : tie.Need-returns
 returns c =
