@@ -200,11 +200,11 @@ static void read_length(const char *text, const char *where)
     report_len = (size_t)len;
 }
 
-static void read_input(struct file *file, const char *path)
+static void read_input(struct file *file, const char *path, const char *hint)
 {
     int problem = read_file(path, file);
     if (problem)
-        stop(path, strerror(problem), "name a file that can be read, /dev/null for no bytes");
+        stop(path, strerror(problem), hint);
 }
 
 /* Reads a file of the folder, if it is there. */
@@ -225,7 +225,7 @@ static void read_folder(const char *folder)
     char path[4096], text[32];
     for (int i = 0; i < REPORT; i++) {
         snprintf(path, sizeof path, "%s/%s", folder, names[i]);
-        read_input(&inputs[i], path);
+        read_input(&inputs[i], path, "put a readable file there, an empty one for no bytes");
     }
     if (read_optional(folder, "report_length", &length)) {
         snprintf(text, sizeof text, "%.*s", (int)(length.len < 31 ? length.len : 31), length.bytes);
@@ -241,7 +241,8 @@ int main(int argc, char **argv)
         read_optional(argv[1], "report", &expected);
     } else if (argc == 4 || argc == 5) {
         for (int i = 0; i < REPORT; i++)
-            read_input(&inputs[i], argv[1 + i]);
+            read_input(&inputs[i], argv[1 + i],
+                       "name a file that can be read, /dev/null for no bytes");
         if (argc == 5)
             read_length(argv[4], argv[4]);
     } else {

@@ -23,12 +23,13 @@ static inline int read_file(const char *path, struct file *file)
         return errno;
     file->len = 0;
     file->bytes = malloc(room);
+    errno = 0;
     while (file->bytes && (got = fread(file->bytes + file->len, 1, room - file->len, from)) > 0) {
         file->len += got;
         if (file->len == room)
             file->bytes = realloc(file->bytes, room *= 2);
     }
-    int problem = !file->bytes ? ENOMEM : ferror(from) ? EIO : 0;
+    int problem = !file->bytes ? ENOMEM : !ferror(from) ? 0 : errno ? errno : EIO;
     fclose(from);
     return problem;
 }

@@ -2,17 +2,20 @@
 
 use std::{env, path::PathBuf, process};
 
+const HINT: &str = "build libhirelog.a by `rt staticlib hirelog`, and set HIRELOG_LIB_DIR to its \
+    folder's whole path, target/staticlib of the repository (a relative path counts from rust/)";
+
 fn main() {
     println!("cargo:rerun-if-env-changed=HIRELOG_LIB_DIR");
     let Some(named) = env::var_os("HIRELOG_LIB_DIR") else {
-        fail("HIRELOG_LIB_DIR is not set: it names the folder of libhirelog.a (target/staticlib)");
+        fail(&format!("HIRELOG_LIB_DIR is not set; {HINT}"));
     };
     // A relative path counts from this package's folder.
     let package = PathBuf::from(env::var_os("CARGO_MANIFEST_DIR").expect("set by cargo"));
     let folder = package.join(named);
     let archive = folder.join("libhirelog.a");
     if !archive.is_file() {
-        fail(&format!("HIRELOG_LIB_DIR: there is no {}", archive.display()));
+        fail(&format!("HIRELOG_LIB_DIR: there is no {}; {HINT}", archive.display()));
     }
     println!("cargo:rerun-if-changed={}", archive.display());
     println!("cargo:rustc-link-search=native={}", folder.display());
