@@ -1,4 +1,7 @@
-/* The C interface of libhirelog.a. */
+/*
+ * The C interface of libhirelog.a, for x86-64 Linux. A call needs some 35,000 bytes of stack. The
+ * library allocates nothing, and calls no function but memcpy and memset.
+ */
 #ifndef HIRELOG_H
 #define HIRELOG_H
 
@@ -21,7 +24,10 @@ extern "C" {
 /* The bytes of an audit's report. */
 #define HIRELOG_REPORT_SIZE 53
 
-/* The numbers that a function returns. Document 01 has the words: What stops an audit. */
+/*
+ * The numbers that a function returns. docs/C.md says what each means and what to do about it, in
+ * the words of document 01 (What stops an audit).
+ */
 #define HIRELOG_OK 0
 #define HIRELOG_SHORT_REPORT 1
 #define HIRELOG_ROSTER_SIZE 2
