@@ -12,7 +12,7 @@ stepped I q j i tmp = tagged I q i (be 1 j ++ tmp)
 -- steps j, j + 1, .. of chain i, `count` of them: the inner loop of algorithm 4b, step 3
 unfoldable pub chain : List ℕ → ℕ → ℕ → ℕ → ℕ → List ℕ → List ℕ
 chain I q i zero j tmp = tmp
-chain I q i (suc count) j tmp = chain I q i count (suc j) (tagged I q i (be 1 j ++ tmp))
+chain I q i (suc count) j tmp = chain I q i count (suc j) (stepped I q j i tmp)
 
 -- the first five words of the block of each step of a leaf's chains: I and q
 unfoldable pub front : Leaf → List ℕ

@@ -1,11 +1,10 @@
 -- The tests of algorithms 6 and 6a one after the other: the first that fails, or the last, gives the answer.
 -- Assumes nothing.
-use mathlib.Core.Path.{_≡_, refl, sym, _∙_}
-use mathlib.Core.Bool.{Bool, true, false, cond}
+use mathlib.Core.Path.{_≡_}
+use mathlib.Core.Bool.{Bool, true, false}
 use mathlib.Core.List.{List}
-use Prim.Native.Nat.{ℕ, _+_, _^_, _≤_, _<_}
+use Prim.Native.Nat.{ℕ, _≤_, _<_}
 use borrow.Author.Tests.{lt-ltb, le-ltb, eq-eqb, ne-eqb}
-use lib.Dec.{eqb, ltb}
 use lib.ListN.{length, drop}
 use Rattle.words.specs.BigEndian.{numberAt, same}
 use Rattle.sha256.specs.Service.{limit, tooLong}
@@ -13,37 +12,21 @@ use Rattle.lm_digits.specs.declared.Parameters.{Parameters}
 use Rattle.lm_digits.specs.declared.OneTime.the-variants.{Known, Unknown as NoType}
 use Rattle.lm_digits.specs.Parameters.{oneTime}
 use Rattle.lm_format.specs.declared.Height.the-variants.{Levels, Unknown}
-use Rattle.lm_format.specs.Format.{height, keySize, oneTimeBytes, signatureLength}
+use Rattle.lm_format.specs.Format.{height, keySize}
 use Rattle.lm_format.specs.Formed.{formed}
 use Rattle.lm_answer.specs.declared.Answer.the-variants.{Good, Bad, Long}
 use Rattle.lms.specs.Check.{rootOf, verifies, typed, good, answer}
 
 -- ---- known types
 
-tests : (a b c d e : Bool)
-    → cond a (cond b (cond c (cond d e false) false) false) false ≡ cond (cond a (cond b (cond c d false) false) false) e false
-tests true true true d e = refl
-tests true true false d e = refl
-tests true false c d e = refl
-tests false b c d e = refl
-
 module _ (o : Parameters) (h : ℕ) (key message sig : List ℕ) where
-  -- the tests that need no hash, then the root's
-  in-parts : verifies o h key message sig ≡ cond (formed o h key sig) (same (rootOf o h key message sig) (drop 24 key)) false
-  unfolding verifies formed
-  in-parts =
-      tests
-      (eqb (length sig) (signatureLength o h))
-      (eqb (numberAt 4 sig 4) (numberAt 4 key 4))
-      (eqb (numberAt 4 sig (8 + oneTimeBytes o)) (numberAt 4 key 0))
-      (ltb (numberAt 4 sig 0) (2 ^ h))
-      (same (rootOf o h key message sig) (drop 24 key))
-
   pub unformed : formed o h key sig ≡ false → false ≡ verifies o h key message sig
-  unformed e = sym (rw e at in-parts)
+  unfolding verifies
+  unformed e = rw e
 
   pub by-root : formed o h key sig ≡ true → (r : Bool) → r ≡ same (rootOf o h key message sig) (drop 24 key) → r ≡ verifies o h key message sig
-  by-root e r root = root ∙ sym (rw e at in-parts)
+  unfolding verifies
+  by-root e r root = rw e root
 
 -- ---- any key
 

@@ -2,8 +2,8 @@
 -- "Digest and signature").
 use mathlib.Core.Bool.{Bool, false, cond}
 use mathlib.Core.List.{List}
-use Prim.Native.Nat.{ℕ, _+_, _^_}
-use lib.Dec.{eqb, ltb}
+use Prim.Native.Nat.{ℕ}
+use lib.Dec.{eqb}
 use lib.ListN.{length, take, drop}
 use Rattle.words.specs.BigEndian.{numberAt, same}
 use Rattle.sha256.specs.Service.{tooLong}
@@ -13,7 +13,8 @@ use Rattle.lm_digits.specs.declared.OneTime.the-variants.{Known, Unknown as NoT
 use Rattle.lm_digits.specs.Parameters.{oneTime}
 use Rattle.lm_format.specs.declared.Height.{Height}
 use Rattle.lm_format.specs.declared.Height.the-variants.{Levels, Unknown}
-use Rattle.lm_format.specs.Format.{height, keySize, oneTimeBytes, pathAt, signatureLength}
+use Rattle.lm_format.specs.Format.{height, keySize, oneTimeBytes, pathAt}
+use Rattle.lm_format.specs.Formed.{formed}
 use Rattle.lm_ots.specs.Candidate.{candidate}
 use Rattle.lm_answer.specs.declared.Answer.{Answer}
 use Rattle.lm_answer.specs.declared.Answer.the-variants.{Good, Bad, Long}
@@ -30,16 +31,7 @@ module _ (o : Parameters) (h : ℕ) (key message signature : List ℕ) where
 
   -- algorithm 6a, step 2, and algorithm 6, step 4, for known types
   unfoldable pub verifies : Bool
-  verifies =
-      cond (eqb (length signature) (signatureLength o h))  -- 2.d, 2.i
-      (cond (eqb (numberAt 4 signature 4) (numberAt 4 key 4))  -- 2.c
-      (cond (eqb (numberAt 4 signature (8 + oneTimeBytes o)) (numberAt 4 key 0))  -- 2.g
-      (cond (ltb (numberAt 4 signature 0) (2 ^ h))  -- 2.i
-      (same rootOf (drop 24 key))  -- algorithm 6, step 4
-      false)
-      false)
-      false)
-      false
+  verifies = cond (formed o h key signature) (same rootOf (drop 24 key)) false
 
 -- algorithm 6, steps 1 and 2: a type that is not listed is bad
 unfoldable pub typed : OneTime → Height → List ℕ → List ℕ → List ℕ → Bool
