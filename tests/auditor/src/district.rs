@@ -1,6 +1,7 @@
 //! A simulated district: replicas that act by document 01's board rules, honest and cheating,
 //! and the submissions that what they signed allows.
 
+pub mod premises;
 mod replica;
 mod signed;
 
@@ -9,6 +10,7 @@ use crate::random::Random;
 use crate::roster::{mask_of, quorum, replicas_of};
 use crate::sha256::sha256;
 use crate::statement::{pointers, Position, Record, Vote};
+pub use replica::Act;
 use replica::{Cheats, Replica};
 use signed::Signed;
 
@@ -216,7 +218,8 @@ impl District {
                 replica.take(same, &leader.log[same..]);
             }
             if random.below(6) != 0 {
-                if let Some(at) = replica.receipt(replica.log.len()) {
+                let end = replica.log.len();
+                if let Some(at) = replica.receipt(end) {
                     self.signed.receipt(replica.number, at);
                 }
             }
@@ -247,6 +250,11 @@ impl District {
     fn payload(&mut self) -> [u8; 32] {
         self.payloads += 1;
         sha256(&[b"payload", &self.payloads.to_be_bytes()])
+    }
+
+    /// What an honest replica has done, in its order.
+    pub fn acts(&self, replica: u16) -> &[Act] {
+        &self.lives[replica as usize - 1].replica.acts
     }
 
     /// A claim for each log that can be submitted, with chosen signers and a chosen commit.

@@ -1,5 +1,19 @@
 //! A small seeded generator (splitmix64): the same seed gives the same values.
 
+use std::env;
+use std::time::{SystemTime, UNIX_EPOCH};
+
+/// The seed of a run that is to be new: SEED if it is set, otherwise one from the clock.
+pub fn fresh_seed() -> Result<u64, &'static str> {
+    match env::var("SEED") {
+        Ok(text) => text.parse().map_err(|_| "SEED is not a number below 2^64"),
+        Err(_) => {
+            let now = SystemTime::now().duration_since(UNIX_EPOCH).expect("the clock is past 1970");
+            Ok(now.as_nanos() as u64)
+        }
+    }
+}
+
 pub struct Random(u64);
 
 impl Random {

@@ -35,15 +35,18 @@ pub struct Position {
 pub fn pointers(log: &[Record]) -> Vec<Digest> {
     let mut pointers = vec![POINTER_0];
     for (i, record) in log.iter().enumerate() {
-        let index = i as u32 + 1;
-        pointers.push(sha256(&[
-            &index.to_be_bytes(),
-            &record.term.to_be_bytes(),
-            &record.payload,
-            &pointers[i],
-        ]));
+        pointers.push(sha256(&[&chain_string(i + 1, record, &pointers[i])]));
     }
     pointers
+}
+
+/// The 72 bytes that the pointer at an index is the digest of.
+pub fn chain_string(index: usize, record: &Record, before: &Digest) -> Vec<u8> {
+    let mut bytes = (index as u32).to_be_bytes().to_vec();
+    bytes.extend(record.term.to_be_bytes());
+    bytes.extend(record.payload);
+    bytes.extend(before);
+    bytes
 }
 
 /// Kind 1: 57 bytes.
@@ -104,6 +107,7 @@ mod tests {
         string.extend([8; 32]);
         string.extend(pointers[1]);
         assert_eq!(string.len(), 72);
+        assert_eq!(chain_string(2, &log[1], &pointers[1]), string);
         assert_eq!(pointers[2], sha256(&[&string]));
         assert_eq!(pointers.len(), 3);
     }

@@ -4,7 +4,7 @@
 mod layout;
 
 use crate::bytes::{array_at, u32_at};
-use crate::roster::{replicas_of, Roster};
+use crate::roster::{replicas_of, Name, Roster};
 use crate::sha256::Digest;
 use crate::statement::{self, pointers, Position, Record, Vote};
 use crate::verdicts::Verdicts;
@@ -53,6 +53,14 @@ pub struct Trailer {
     pub leaders: u32,
     pub distances: [u32; 4],
     pub version: u32,
+}
+
+/// A signature, its replica, and the statement that it stands on.
+#[derive(Debug)]
+pub struct Slot<'a> {
+    pub replica: u16,
+    pub statement: Vec<u8>,
+    pub signature: &'a [u8],
 }
 
 /// A run of records of one term: the indexes of its first and its last.
@@ -181,32 +189,29 @@ impl Submission {
 
     /// Check 15: votes, stamps and receipts.
     fn signatures_are_good(&self, roster: &Roster, verdicts: &mut Verdicts) -> bool {
+        self.slots(&roster.name)
+            .iter()
+            .all(|slot| verdicts.good(roster.key(slot.replica), &slot.statement, slot.signature))
+    }
+
+    /// Every signature of a submission that meets checks 10 to 14, with what it stands on.
+    pub fn slots(&self, name: &Name) -> Vec<Slot<'_>> {
         let pointers = pointers(&self.records);
+        let mut slots = Vec::new();
         for leader in &self.leaders {
-            let message = statement::vote(&roster.name, &leader.vote);
-            for (k, signature) in replicas_of(leader.signers).iter().zip(&leader.signatures) {
-                if !verdicts.good(roster.key(*k), &message, signature) {
-                    return false;
-                }
-            }
+            let statement = statement::vote(name, &leader.vote);
+            slots.extend(certified(leader.signers, &statement, &leader.signatures));
         }
         for ((leader, run), signature) in self.leaders.iter().zip(self.runs()).zip(&self.stamps) {
-            let at = self.position(&pointers, run.last);
-            let message = statement::stamp(&roster.name, &at);
-            if !verdicts.good(roster.key(leader.vote.candidate), &message, signature) {
-                return false;
-            }
+            let statement = statement::stamp(name, &self.position(&pointers, run.last));
+            slots.push(Slot { replica: leader.vote.candidate, statement, signature });
         }
         if let Some(commit) = &self.commit {
             let at = self.position(&pointers, commit.index as usize);
-            let message = statement::receipt(&roster.name, &at);
-            for (k, signature) in replicas_of(commit.signers).iter().zip(&commit.signatures) {
-                if !verdicts.good(roster.key(*k), &message, signature) {
-                    return false;
-                }
-            }
+            let statement = statement::receipt(name, &at);
+            slots.extend(certified(commit.signers, &statement, &commit.signatures));
         }
-        true
+        slots
     }
 
     /// The record at an index, as a stamp or a receipt names it.
@@ -214,6 +219,16 @@ impl Submission {
         let term = self.records[index - 1].term;
         Position { term, index: index as u32, pointer: pointers[index] }
     }
+}
+
+/// One signature per signer, in rising order.
+fn certified<'a>(signers: u16, statement: &[u8], signatures: &'a [Vec<u8>]) -> Vec<Slot<'a>> {
+    let slot = |(replica, signature): (u16, &'a Vec<u8>)| Slot {
+        replica,
+        statement: statement.to_vec(),
+        signature,
+    };
+    replicas_of(signers).into_iter().zip(signatures).map(slot).collect()
 }
 
 #[cfg(test)]

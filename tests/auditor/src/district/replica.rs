@@ -17,6 +17,17 @@ pub struct Cheats {
     pub forgets: bool,
 }
 
+/// What a replica has done. Declining and restarting change nothing, and are not kept.
+#[derive(Clone, Debug)]
+pub enum Act {
+    Raise(u32),
+    Vote(Vote),
+    Take(usize, Vec<Record>),
+    Add([u8; 32]),
+    Stamp,
+    Receipt(usize),
+}
+
 #[derive(Clone, Debug)]
 pub struct Replica {
     pub number: u16,
@@ -27,12 +38,21 @@ pub struct Replica {
     pub last_stamp: Option<u32>,
     pub log: Vec<Record>,
     pub cheats: Cheats,
+    /// What it has done so far.
+    pub acts: Vec<Act>,
 }
 
 impl Replica {
     pub fn new(number: u16) -> Replica {
-        let cheats = Cheats::default();
-        Replica { number, term: 0, last_vote: None, last_stamp: None, log: Vec::new(), cheats }
+        Replica {
+            number,
+            term: 0,
+            last_vote: None,
+            last_stamp: None,
+            log: Vec::new(),
+            cheats: Cheats::default(),
+            acts: Vec::new(),
+        }
     }
 
     /// The term and the index of its last record; 0 and 0 for an empty log.
@@ -46,6 +66,7 @@ impl Replica {
             return false;
         }
         self.term = term;
+        self.acts.push(Act::Raise(term));
         true
     }
 
@@ -67,6 +88,7 @@ impl Replica {
         }
         self.term = vote.term;
         self.last_vote = Some((vote.term, vote.candidate));
+        self.acts.push(Act::Vote(*vote));
         true
     }
 
@@ -88,6 +110,7 @@ impl Replica {
             return false;
         }
         self.log = log;
+        self.acts.push(Act::Take(keep, run.to_vec()));
         true
     }
 
@@ -97,6 +120,7 @@ impl Replica {
             return false;
         }
         self.log.push(Record { term: self.term, payload });
+        self.acts.push(Act::Add(payload));
         true
     }
 
@@ -104,12 +128,15 @@ impl Replica {
     pub fn stamp(&mut self) -> Option<Position> {
         let at = self.own_record(self.log.len())?;
         self.last_stamp = Some(self.term);
+        self.acts.push(Act::Stamp);
         Some(at)
     }
 
     /// Gives a receipt for a record of its log, if it may.
-    pub fn receipt(&self, index: usize) -> Option<Position> {
-        self.own_record(index)
+    pub fn receipt(&mut self, index: usize) -> Option<Position> {
+        let at = self.own_record(index)?;
+        self.acts.push(Act::Receipt(index));
+        Some(at)
     }
 
     /// The record at an index, if there is one and it has the replica's own term.

@@ -1,6 +1,7 @@
 //! Compares the library's audit with this package's own.
 //!
-//! audit_compare                the fixed cases, then fewer from a fresh seed
+//! audit_compare                the fixed cases, then fewer from a fresh seed, then the premises of
+//!                              fairness on pairs that fork
 //! SEED=n audit_compare         the same with that fresh seed
 //! audit_compare replay FOLDER  one case, from the files that a difference leaves behind
 //!
@@ -11,13 +12,14 @@
 //! which the library crashes is found.
 
 mod library;
+mod premises;
 mod replay;
 
 use auditor::audit::{audit, findings};
 use auditor::cases::{self, Case, Size};
+use auditor::random::fresh_seed;
 use auditor::verdicts::Verdicts;
 use library::Answer;
-use std::time::{SystemTime, UNIX_EPOCH};
 use std::{env, process::exit};
 
 const FIXED_SEED: u64 = 1;
@@ -44,7 +46,7 @@ fn main() {
 
 /// The fixed set, then the fresh one.
 fn compare_all() {
-    let seed = fresh_seed();
+    let seed = fresh_seed().unwrap_or_else(|why| stop(why));
     println!("audit_compare: SEED={seed} gives this run's fresh set again");
     let mut comparison = Comparison::new("fixed set");
     cases::run(FIXED_SEED, Size::Full, &mut |case| comparison.compare(case));
@@ -54,22 +56,12 @@ fn compare_all() {
     let fresh = comparison.cases - fixed;
     println!("audit_compare: {fixed} fixed cases, {fresh} fresh ones");
     comparison.print();
+    premises::hold();
     if fixed < FEWEST_FIXED || fresh < FEWEST_FRESH {
         stop("there are too few cases: add to src/cases");
     }
     if comparison.counts.contains(&0) {
         stop("one of the numbers never came: add cases for it to src/cases");
-    }
-}
-
-/// SEED if it is set, otherwise one from the clock.
-fn fresh_seed() -> u64 {
-    match env::var("SEED") {
-        Ok(text) => text.parse().unwrap_or_else(|_| stop("SEED is not a number below 2^64")),
-        Err(_) => {
-            let now = SystemTime::now().duration_since(UNIX_EPOCH).expect("the clock is past 1970");
-            now.as_nanos() as u64
-        }
     }
 }
 

@@ -10,8 +10,8 @@ mod cases;
 
 use auditor::hex;
 use auditor::lms::{check, Verdict};
+use auditor::random::fresh_seed;
 use hirelog::sys::hirelog_lms_check;
-use std::time::{SystemTime, UNIX_EPOCH};
 use std::{env, process::exit, ptr};
 
 const FIXED_SEED: u64 = 8554;
@@ -32,7 +32,7 @@ fn main() {
 
 /// The fixed set, then the fresh one.
 fn compare_all() {
-    let seed = fresh_seed();
+    let seed = fresh_seed().unwrap_or_else(|why| stop(why));
     println!("lms_compare: SEED={seed} gives this run's fresh set again");
     let mut comparison = Comparison::new("fixed set");
     cases::run(&mut comparison, FIXED_SEED, cases::Size::Full);
@@ -42,17 +42,6 @@ fn compare_all() {
     if comparison.good == 0 || comparison.bad == 0 || comparison.long == 0 {
         eprintln!("lms_compare: one of the verdicts never came");
         exit(1);
-    }
-}
-
-/// SEED if it is set, otherwise one from the clock.
-fn fresh_seed() -> u64 {
-    match env::var("SEED") {
-        Ok(text) => text.parse().unwrap_or_else(|_| stop("SEED is not a number below 2^64")),
-        Err(_) => {
-            let now = SystemTime::now().duration_since(UNIX_EPOCH).expect("the clock is past 1970");
-            now.as_nanos() as u64
-        }
     }
 }
 

@@ -1,0 +1,74 @@
+//! Fairness is not an empty claim: pairs of accepted submissions that fork, in which the library
+//! names somebody, and beside whoever is named replicas that meet every premise, with signatures
+//! of their own in the pair.
+
+use crate::stop;
+use auditor::build::Cluster;
+use auditor::district::premises::Past;
+use auditor::district::{two_of, District};
+use auditor::random::Random;
+use auditor::roster::{replicas_of, Roster};
+use auditor::submission::Submission;
+use auditor::verdicts::Verdicts;
+
+/// How many pairs that fork are looked for, for each number of replicas.
+const FORKS: usize = 8;
+
+/// Stops if a replica does not meet a premise, or is named.
+pub fn hold() {
+    let (mut pairs, mut replicas, mut signatures) = (0, 0, 0);
+    let mut random = Random::new(4);
+    let mut verdicts = Verdicts::default();
+    for n in [3, 4, 5] {
+        let cluster = Cluster::new("premises", n, 5);
+        let bytes = cluster.roster();
+        let roster = Roster::read(&bytes).unwrap_or_else(|_| stop("premises: no roster"));
+        let mut forks = 0;
+        while forks < FORKS {
+            let cheats = 1 + random.below(n - 1);
+            let district = District::simulate(n, cheats, &mut random);
+            let claims = district.claims(&mut random);
+            let Some((a, b)) = two_of(&claims, &mut random) else {
+                continue;
+            };
+            let [first, second] = [a, b].map(|claim| claim.draft(&cluster).bytes());
+            let Ok(found) = hirelog::audit(&bytes, &first, &second) else {
+                stop("premises: a pair is refused");
+            };
+            if found.fork.is_none() {
+                continue;
+            }
+            if found.charges.iter().all(Option::is_none) {
+                stop("premises: a fork, and nobody is named");
+            }
+            let [first, second] = [first, second].map(|bytes| {
+                Submission::read(&roster, &bytes, &mut verdicts)
+                    .unwrap_or_else(|_| stop("premises: a submission is refused"))
+            });
+            let two = [&first, &second];
+            for k in replicas_of(district.honest) {
+                let Some(past) = Past::of(district.acts(k), n, &roster.name) else {
+                    stop("premises: an honest replica's acts break a rule");
+                };
+                let own = past.own_signatures(roster.key(k), &roster.name, two, &mut verdicts);
+                let Some(own) = own.filter(|_| past.strings_apart(two)) else {
+                    stop("premises: an honest replica does not meet them");
+                };
+                if found.charges[k as usize - 1].is_some() {
+                    stop("premises: a replica meets them, and is named");
+                }
+                replicas += usize::from(own > 0);
+                signatures += own;
+            }
+            forks += 1;
+        }
+        pairs += forks;
+    }
+    println!(
+        "audit_compare: {pairs} pairs fork and name somebody; in them {replicas} replicas with \
+         {signatures} signatures of their own meet every premise of fairness, and none is named"
+    );
+    if replicas < pairs / 2 {
+        stop("premises: too few replicas meet them: look at src/district.rs");
+    }
+}

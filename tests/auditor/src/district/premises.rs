@@ -1,0 +1,130 @@
+//! The premises of fairness (demand 3), asked of a replica's list of acts and of two submissions
+//! in document 01's words.
+
+use super::replica::{Act, Replica};
+use crate::roster::Name;
+use crate::sha256::sha256;
+use crate::statement::{self, chain_string, pointers, Record};
+use crate::submission::Submission;
+use crate::verdicts::Verdicts;
+use std::collections::{HashMap, HashSet};
+
+/// What a list of acts signs, and the logs held on the way.
+pub struct Past {
+    signed: HashSet<Vec<u8>>,
+    held: Vec<Vec<Record>>,
+}
+
+impl Past {
+    /// The acts of one of n replicas, each on the state that the one before left; nothing if one of
+    /// them breaks a board rule.
+    pub fn of(acts: &[Act], n: usize, name: &Name) -> Option<Past> {
+        let mut replica = Replica::new(0);
+        let mut past = Past { signed: HashSet::new(), held: vec![Vec::new()] };
+        for act in acts {
+            let kept = match act {
+                Act::Raise(term) => replica.raise(*term),
+                Act::Vote(vote) => {
+                    past.sign(replica.vote(vote, n).then(|| statement::vote(name, vote)))
+                }
+                Act::Take(keep, run) => replica.take(*keep, run),
+                Act::Add(payload) => replica.add(*payload),
+                Act::Stamp => past.sign(replica.stamp().map(|at| statement::stamp(name, &at))),
+                Act::Receipt(index) => {
+                    past.sign(replica.receipt(*index).map(|at| statement::receipt(name, &at)))
+                }
+            };
+            if !kept {
+                return None;
+            }
+            past.held.push(replica.log.clone());
+        }
+        Some(past)
+    }
+
+    fn sign(&mut self, statement: Option<Vec<u8>>) -> bool {
+        let kept = statement.is_some();
+        self.signed.extend(statement);
+        kept
+    }
+
+    /// How many signatures of the two submissions are good under the replica's key; nothing if one
+    /// of them stands on a statement that was not signed in the list.
+    pub fn own_signatures(
+        &self,
+        key: &[u8],
+        name: &Name,
+        two: [&Submission; 2],
+        verdicts: &mut Verdicts,
+    ) -> Option<usize> {
+        let mut own = 0;
+        for slot in two.iter().flat_map(|submission| submission.slots(name)) {
+            if verdicts.good(key, &slot.statement, slot.signature) {
+                if !self.signed.contains(&slot.statement) {
+                    return None;
+                }
+                own += 1;
+            }
+        }
+        Some(own)
+    }
+
+    /// Whether no two different chain strings of the logs held and of the two submissions have one
+    /// SHA-256 value.
+    pub fn strings_apart(&self, two: [&Submission; 2]) -> bool {
+        let mut strings = HashMap::new();
+        let submitted = two.iter().map(|submission| &submission.records);
+        self.held.iter().chain(submitted).all(|log| {
+            let pointers = pointers(log);
+            log.iter().enumerate().all(|(i, record)| {
+                let string = chain_string(i + 1, record, &pointers[i]);
+                let known = strings.entry(sha256(&[&string])).or_insert_with(|| string.clone());
+                *known == string
+            })
+        })
+    }
+}
+
+#[cfg(test)]
+mod tests {
+    use super::*;
+    use crate::build::{log, Cluster};
+    use crate::roster::Roster;
+
+    /// A replica that votes for itself, adds a record, stamps it and gives a receipt for it; and
+    /// the submission that this allows.
+    fn past_and_submission(cluster: &Cluster, roster: &Roster) -> (Past, Submission) {
+        let records = log(&[(1, "a")]);
+        let draft = cluster.submission(&records, &[(1, 0b011)], Some((1, 0b101)));
+        let vote = draft.leaders[0].vote;
+        let acts = [Act::Vote(vote), Act::Add(records[0].payload), Act::Stamp, Act::Receipt(1)];
+        let past = Past::of(&acts, 3, &roster.name).expect("the acts keep the rules");
+        let read = Submission::read(roster, &draft.bytes(), &mut Verdicts::default());
+        (past, read.expect("the submission is accepted"))
+    }
+
+    #[test]
+    fn met() {
+        let cluster = Cluster::new("premises", 3, 5);
+        let roster = Roster::read(&cluster.roster()).expect("a roster");
+        let (past, submission) = past_and_submission(&cluster, &roster);
+        let (two, mut verdicts) = ([&submission, &submission], Verdicts::default());
+        let mut own = |k| past.own_signatures(roster.key(k), &roster.name, two, &mut verdicts);
+        // Its vote, stamp and receipt, in either; replicas 2 and 3 signed nothing else.
+        assert_eq!([1, 2, 3].map(&mut own), [Some(6), Some(2), Some(2)]);
+        assert!(past.strings_apart(two));
+    }
+
+    /// A statement that the list does not have; an act that breaks a rule.
+    #[test]
+    fn not_met() {
+        let cluster = Cluster::new("premises", 3, 5);
+        let roster = Roster::read(&cluster.roster()).expect("a roster");
+        let (_, submission) = past_and_submission(&cluster, &roster);
+        let past = Past::of(&[Act::Raise(1)], 3, &roster.name).expect("a raise is allowed");
+        let (two, mut verdicts) = ([&submission, &submission], Verdicts::default());
+        assert_eq!(past.own_signatures(roster.key(1), &roster.name, two, &mut verdicts), None);
+        assert!(Past::of(&[Act::Raise(2), Act::Raise(1)], 3, &roster.name).is_none());
+        assert!(Past::of(&[Act::Raise(1), Act::Stamp], 3, &roster.name).is_none());
+    }
+}
