@@ -1,4 +1,5 @@
 -- The four words as they stand.
+-- The needs are the bounds of each place that is read, and so are like those of any function that reads several.
 -- Assumes nothing.
 use mathlib.Core.Path.{refl}
 use native.Mathlib.Nat.{add-zero}

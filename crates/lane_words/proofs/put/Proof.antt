@@ -1,4 +1,5 @@
 -- The four words, one after the other.
+-- The needs are the bounds of each place that is written, and so are like those of any function that writes several; the argument is `put-words`.
 -- Assumes nothing.
 use native.Mathlib.Omega.{arith}
 use lib.ListN.{length-set}

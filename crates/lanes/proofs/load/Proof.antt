@@ -1,4 +1,5 @@
 -- One word of each lane a turn.
+-- The needs are the bounds of each place that is read, and so are like those of any function that reads several.
 -- Assumes nothing.
 use Prim.Native.Nat.{ℕ, _-_, _≤_, _<_}
 use mathlib.Core.Path.{_≡_}

@@ -1,4 +1,5 @@
 -- Each test that fails ends the check, and the last decides.
+-- The needs are the bounds of each place that is read, and so are like those of any function that reads several.
 -- Assumes nothing.
 use mathlib.Core.Path.{_≡_, sym, _∙_}
 use Prim.Native.Nat.{_+_, _-_}

@@ -1,4 +1,5 @@
 -- The head of 22 bytes and the rest, one after the other, are hashed.
+-- The needs are those of a part of an array that is lent on, as in `tagged_message`; what is put together is not the same.
 -- Assumes nothing.
 use mathlib.Core.Path.{_≡_, ap, _∙_}
 use mathlib.Core.List.{List, _++_}

@@ -1,4 +1,5 @@
 -- The head and the salt are the first 54 bytes of a block, and the message follows them.
+-- The needs are those of a part of an array that is lent on, as in `tagged`; what is put together is not the same.
 -- Assumes nothing.
 use mathlib.Core.Path.{_≡_, ap, _∙_}
 use mathlib.Core.List.{List, _++_}

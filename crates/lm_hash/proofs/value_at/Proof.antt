@@ -1,4 +1,5 @@
 -- The eight words have the bytes that they were read from.
+-- The needs are the bounds of each place that is read, and so are like those of any function that reads several.
 -- Assumes nothing.
 use Prim.Native.Nat.{ℕ, _<_}
 use lib.ListN.{getD}

@@ -1,4 +1,5 @@
 -- One level a turn: the levels that are left give what all of them give.
+-- A loop that counts down, with the needs of any such loop; the step that is its own is `climb-first`.
 -- Assumes nothing.
 use mathlib.Core.Path.{_≡_, refl}
 use Prim.Native.Nat.{_+_, _*_}

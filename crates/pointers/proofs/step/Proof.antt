@@ -1,4 +1,5 @@
 -- The hash of the next index, the record's bytes and the pointer before.
+-- The needs are the ends of a record's part, as in `logs::same_record`; what is done with the part is not the same.
 -- Assumes nothing.
 use mathlib.Core.Path.{_≡_}
 use mathlib.Core.List.{[], _++_}

@@ -1,4 +1,5 @@
 -- Each number is read at its place.
+-- The needs are the bounds of each place that is read, and so are like those of any function that reads several.
 -- Assumes nothing.
 use Rattle.reader.proofs.Readings.{numbers-read}
 use borrow.Author.Needs.{needs}

@@ -1,4 +1,5 @@
 -- A row a turn, each where the one before ends.
+-- A loop that fills a buffer, with the needs of any such loop; the step that is its own is `rows-more`.
 -- Assumes nothing.
 use mathlib.Core.List.{List, map, flatMap}
 use mathlib.Core.Path.{_≡_, refl, ap, _∙_}

@@ -1,4 +1,5 @@
 -- One word a turn, read at its place.
+-- A loop that fills a buffer, with the needs of any such loop; the step that is its own is `parse-step`.
 -- Assumes nothing.
 use Prim.Native.Nat.{_≤_, _-_, _*_}
 use mathlib.Core.Path.{_≡_, refl, sym, _∙_}

@@ -1,4 +1,5 @@
 -- One word a turn: four bytes more are the next word's.
+-- A loop that fills a buffer, with the needs of any such loop; the step that is its own is `put-step`.
 -- Assumes nothing.
 use Prim.Native.Nat.{_≤_, _<_, _-_, _*_}
 use mathlib.Core.Path.{_≡_, refl, sym, ap, _∙_}

@@ -1,4 +1,5 @@
 -- The loop copies the sixteen words; each of the six steps adds eight.
+-- A loop that fills a buffer, with the needs of any such loop; the step that is its own is `take-suc-set`.
 -- Assumes nothing.
 use Prim.Native.Nat.{_≤_, _<_, _-_}
 use mathlib.Core.Path.{_≡_, refl, sym, _∙_}

@@ -1,4 +1,5 @@
 -- One word more: the law of the schedule's next word.
+-- The needs are the bounds of each place, and so are like those of any function that reads or writes several.
 -- Assumes nothing.
 use native.Mathlib.Omega.{arith}
 use lib.ListN.{length-set}

@@ -1,4 +1,5 @@
 -- One byte a turn.
+-- A loop that fills a buffer, with the needs of any such loop; the step that is its own is `sets-more`.
 -- Assumes nothing.
 use Prim.Native.Nat.{_≤_, _<_, _-_}
 use mathlib.Core.Path.{_≡_, refl, ap, _∙_}

@@ -1,4 +1,5 @@
 -- The stores are those of the definition's bytes, highest first.
+-- The needs are the bounds of each place, and so are like those of any function that reads or writes several.
 -- Assumes nothing.
 use native.Mathlib.Nat.{div-one}
 use native.Mathlib.Numerals.{towards-suc}

@@ -1,4 +1,5 @@
 -- One term of the other submission a turn.
+-- The loop of `against` with another kind of charge, since a function cannot be handed one. What both argue stands in `proofs/Left.antt`.
 -- Assumes nothing.
 use native.Mathlib.Omega.{arith}
 use Rattle.forensics.specs.Findings.{lowest}

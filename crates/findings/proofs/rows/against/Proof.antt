@@ -1,4 +1,5 @@
 -- One term of the second submission a turn.
+-- The loop of `after_given` with another kind of charge, since a function cannot be handed one. What both argue stands in `proofs/Left.antt`.
 -- Assumes nothing.
 use mathlib.Core.List.{flatMap}
 use native.Mathlib.Omega.{arith}

@@ -1,4 +1,5 @@
 -- One block a turn: the blocks that are left give what all of them give.
+-- A loop that counts down, with the needs of any such loop; the step that is its own is `blocks-first`.
 -- Assumes nothing.
 use Prim.Native.Nat.{_≤_, _+_, _*_}
 use mathlib.Core.Path.{_≡_, refl}

@@ -1,4 +1,5 @@
 -- Each call's promise, put together.
+-- Eight calls, so that the needs are listed as in a group of rounds; what they show is not the same.
 -- Assumes nothing.
 use Rattle.sha256.specs.Sha256.{plus}
 use borrow.Author.Needs.{needs}

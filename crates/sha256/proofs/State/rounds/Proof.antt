@@ -1,4 +1,5 @@
 -- Eight runs of eight rounds.
+-- Eight calls, so that the needs are listed as in each group; the argument is `rounds-eights`.
 -- Assumes nothing.
 use Rattle.sha256.proofs.Rounds.{rounds-eights}
 use mathlib.Core.Path.{sym}
