@@ -1,7 +1,7 @@
 -- SHA-256 of a list of bytes, as FIPS 180-4 defines it. Words are of 32 bits, numbers below 2^32: the operations on them, the
 -- functions of 4.1.2 and the message schedule stand in `sha256_schedule`.
 use mathlib.Core.List.{List, [], _∷_, _++_, flatMap}
-use Prim.Native.Nat.{ℕ, zero, suc, _+_, _-_, _*_, _/_, _%_}
+use Prim.Native.Nat.{ℕ, zero, suc, _-_, _*_, _/_, _%_}
 use lib.ListN.{length, getD, take, drop, replicate}
 use Rattle.words.specs.BigEndian.{number, be}
 use Rattle.sha256.specs.declared.State.{State}

@@ -1,7 +1,7 @@
 -- One byte a turn where the zeros begin, and the byte 128 after the last.
 -- A loop that fills a buffer, with the needs of any such loop; the step that is its own is `fill-more`.
 -- Assumes nothing.
-use Prim.Native.Nat.{_≤_, _+_, _-_}
+use Prim.Native.Nat.{_≤_, _-_}
 use mathlib.Core.Path.{_≡_, refl}
 use mathlib.Core.List.{_++_}
 use native.Mathlib.Nat.{le-refl}
