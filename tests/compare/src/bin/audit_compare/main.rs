@@ -1,8 +1,9 @@
-//! Compares the library's audit with this package's own.
+//! Compares the library's audit with the separately written auditor's.
 //!
-//! audit_compare                the fixed cases, then fewer from a fresh seed, then the premises of
-//!                              fairness on pairs that fork
-//! SEED=n audit_compare         the same with that fresh seed
+//! audit_compare                all of the following
+//! audit_compare fixed          the cases of a fixed seed
+//! audit_compare fresh          fewer from a fresh seed, then the premises of fairness on pairs that
+//!                              fork; SEED=n gives the fresh seed
 //! audit_compare replay FOLDER  one case, from the files that a difference leaves behind
 //!
 //! A case that differs is written to a folder, as `roster`, `first`, `second` and `report_length`,
@@ -34,35 +35,45 @@ const FEWEST_FRESH: u64 = 500;
 fn main() {
     let arguments: Vec<String> = env::args().skip(1).collect();
     match &arguments.iter().map(String::as_str).collect::<Vec<_>>()[..] {
-        [] => compare_all(),
+        [] => {
+            compare_fixed();
+            compare_fresh();
+        }
+        ["fixed"] => compare_fixed(),
+        ["fresh"] => compare_fresh(),
         ["replay", folder] => {
             let mut comparison = Comparison::new(REPLAY);
             replay::read(folder, &mut |case| comparison.compare(case));
             comparison.print();
         }
-        _ => stop("use: audit_compare [replay FOLDER]"),
+        _ => stop("use: audit_compare [fixed | fresh | replay FOLDER]"),
     }
 }
 
-/// The fixed set, then the fresh one.
-fn compare_all() {
-    let seed = fresh_seed().unwrap_or_else(|why| stop(why));
-    println!("audit_compare: SEED={seed} gives this run's fresh set again");
+/// The fixed set, in which every number comes.
+fn compare_fixed() {
     let mut comparison = Comparison::new("fixed set");
     cases::run(FIXED_SEED, Size::Full, &mut |case| comparison.compare(case));
-    let fixed = comparison.cases;
-    comparison.set = format!("fresh set of SEED={seed}");
-    cases::run(seed, Size::Small, &mut |case| comparison.compare(case));
-    let fresh = comparison.cases - fixed;
-    println!("audit_compare: {fixed} fixed cases, {fresh} fresh ones");
     comparison.print();
-    premises::hold();
-    if fixed < FEWEST_FIXED || fresh < FEWEST_FRESH {
-        stop("there are too few cases: add to src/cases");
+    if comparison.cases < FEWEST_FIXED {
+        stop("there are too few cases: add to src/cases of tests/auditor");
     }
     if comparison.counts.contains(&0) {
-        stop("one of the numbers never came: add cases for it to src/cases");
+        stop("one of the numbers never came: add cases for it to src/cases of tests/auditor");
     }
+}
+
+/// The fresh set, and the premises of fairness.
+fn compare_fresh() {
+    let seed = fresh_seed().unwrap_or_else(|why| stop(why));
+    println!("audit_compare: SEED={seed} gives this run's fresh set again");
+    let mut comparison = Comparison::new(&format!("fresh set of SEED={seed}"));
+    cases::run(seed, Size::Small, &mut |case| comparison.compare(case));
+    comparison.print();
+    if comparison.cases < FEWEST_FRESH {
+        stop("there are too few cases: add to src/cases of tests/auditor");
+    }
+    premises::hold();
 }
 
 /// The set under way, and how often each number was given by both.
@@ -89,7 +100,10 @@ impl Comparison {
 
     fn print(&self) {
         let Comparison { cases, calls, .. } = self;
-        println!("audit_compare: {cases} cases, {calls} calls of the library, all as expected");
+        println!(
+            "audit_compare: {}: {cases} cases, {calls} calls of the library, all as expected",
+            self.set
+        );
         for (number, count) in self.counts.iter().enumerate() {
             println!("audit_compare: number {number}: {count} cases");
         }
