@@ -11,9 +11,7 @@ ghost use Rattle.layout.specs.Parts.{Bounds, commitTests, leaderTests};
 ghost use Rattle.submission.specs.Validate.{submissionMost, recordMost, leaderMost};
 use reader::CommitReading;
 use reader::Place;
-
-// The bytes of a record.
-const RECORD_SIZE: usize = 36;
+use submission::RECORD_SIZE;
 
 // Whether part 4, which begins at a place, stands where its distance says and ends at the trailer.
 fn commit_stands(s: &[u8], from: usize, size: usize) -> bool

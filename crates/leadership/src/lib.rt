@@ -11,18 +11,12 @@ ghost use Rattle.submission.specs.Reading.{recordSize, recordsOf, ballotAt, sig
 ghost use Rattle.leadership.specs.Leads as parts;
 ghost use Rattle.submission.specs.Validate as rule;
 use sha256::State;
-
-// The bytes of a vote's fields.
-const BALLOT_SIZE: usize = 46;
-
-// Where they stand among those: term, last term, last index, last pointer.
-const TERM_AT: usize = 2;
-
-const LAST_TERM_AT: usize = 6;
-
-const LAST_INDEX_AT: usize = 10;
-
-const LAST_POINTER_AT: usize = 14;
+use submission::BALLOT_SIZE;
+use submission::LAST_INDEX_AT;
+use submission::LAST_POINTER_AT;
+use submission::LAST_TERM_AT;
+use submission::SIGNERS_SIZE;
+use submission::TERM_AT;
 
 // Whether the last term, index and pointer of the certificate at a place are those of the first i records.
 fn follows(s: &[u8], at: usize, i: usize, before: State) -> bool
@@ -77,7 +71,7 @@ pub fn certificate_end(s: &[u8], size: usize, at: usize) -> usize
     ensures { λ r. ⌜ r ≡ certificateEnd 4 size (now (s .entry)) at ⌝ }
 {
     let signers = words::u16_at(s, at + BALLOT_SIZE);
-    at + BALLOT_SIZE + 2 + size * (u16::count_ones(signers) as usize)
+    at + BALLOT_SIZE + SIGNERS_SIZE + size * (u16::count_ones(signers) as usize)
 }
 
 // 13: whether each certificate is that of its term.
@@ -89,7 +83,7 @@ pub fn all_leading(
     leaders: usize,
     at: usize,
 ) -> bool
-    requires { ⌜ (records ≤ 4096) × (recordSize 4 * records ≤ length (now s)) × (leaders ≡ length (runs (recordsOf 4 records (now s)))) × (certificatesEnd 4 size (now s) leaders at ≤ length (now s)) ⌝ }
+    requires { ⌜ (records ≤ rule.recordMost) × (recordSize 4 * records ≤ length (now s)) × (leaders ≡ length (runs (recordsOf 4 records (now s)))) × (certificatesEnd 4 size (now s) leaders at ≤ length (now s)) ⌝ }
     ensures { λ r. ⌜ ((name : List ℕ) (stamps : List (List ℕ)) → length stamps ≡ leaders → r ≡ every (rule.leading (version1 name) n) (leadsOf (certificates 4 size (now (s .entry)) leaders at) (runs (recordsOf 4 records (now (s .entry)))) stamps)) ⌝ }
 {
     let mut left = leaders;

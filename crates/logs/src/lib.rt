@@ -7,13 +7,14 @@ ghost use Rattle.submission.specs.Reading.{recordSize, recordsOf};
 ghost use Rattle.forensics.specs.Findings.{differAt};
 ghost use Rattle.charges.specs.Charges.{forkOf};
 use charges::Receipts;
+use submission::RECORD_SIZE;
 
 // Whether the bytes of two records at a place are the same.
 fn same_record(a: &[u8], b: &[u8], at: usize) -> bool
     requires { ⌜ (at + recordSize 4 ≤ length (now a)) × (at + recordSize 4 ≤ length (now b)) ⌝ }
     ensures { λ r. ⌜ r ≡ same (take (recordSize 4) (drop at (now (a .entry)))) (take (recordSize 4) (drop at (now (b .entry)))) ⌝ }
 {
-    let end = at + terms::RECORD_SIZE;
+    let end = at + RECORD_SIZE;
     check::same(&a[at..end], &b[at..end])
 }
 
@@ -27,7 +28,7 @@ pub fn difference(a: &[u8], b: &[u8], first: usize, second: usize) -> usize
         if second <= i {
             return 0;
         }
-        if !same_record(a, b, terms::RECORD_SIZE * i) {
+        if !same_record(a, b, RECORD_SIZE * i) {
             return i + 1;
         }
         i += 1;

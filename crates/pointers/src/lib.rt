@@ -7,8 +7,10 @@ ghost use Rattle.sha256.specs.Sha256.{bytesOf};
 ghost use Rattle.chain.specs.Log.{version1, pointer};
 ghost use Rattle.submission.specs.View.{run};
 ghost use Rattle.submission.specs.Reading.{recordSize, recordsOf};
+ghost use Rattle.submission.specs.Validate.{recordMost};
 ghost use Rattle.terms.specs.Later.{runsLeft};
 use sha256::State;
+use submission::RECORD_SIZE;
 
 // A term's last index, and that record's pointer.
 pub struct Walked {
@@ -34,17 +36,17 @@ pub fn pointer_zero() -> State
 
 // The pointer of record i + 1, from record i's.
 fn step(s: &[u8], i: usize, before: State) -> State
-    requires { ⌜ (i < 4096) × (recordSize 4 * (i + 1) ≤ length (now s)) × (bytesOf before ≡ pointer (version1 []) (recordsOf 4 i (now s))) ⌝ }
+    requires { ⌜ (i < recordMost) × (recordSize 4 * (i + 1) ≤ length (now s)) × (bytesOf before ≡ pointer (version1 []) (recordsOf 4 i (now s))) ⌝ }
     ensures { λ r. ⌜ bytesOf r ≡ pointer (version1 []) (recordsOf 4 (i + 1) (now (s .entry))) ⌝ }
 {
-    let start = terms::RECORD_SIZE * i;
-    let end = start + terms::RECORD_SIZE;
+    let start = RECORD_SIZE * i;
+    let end = start + RECORD_SIZE;
     chain::next_pointer((i + 1) as u32, &s[start..end], before)
 }
 
 // The pointer of record `end`, from record i's: one hash a record.
 pub fn pointer_after(s: &[u8], i: usize, end: usize, before: State) -> State
-    requires { ⌜ (i ≤ end) × (end ≤ 4096) × (recordSize 4 * end ≤ length (now s)) × (bytesOf before ≡ pointer (version1 []) (recordsOf 4 i (now s))) ⌝ }
+    requires { ⌜ (i ≤ end) × (end ≤ recordMost) × (recordSize 4 * end ≤ length (now s)) × (bytesOf before ≡ pointer (version1 []) (recordsOf 4 i (now s))) ⌝ }
     ensures { λ r. ⌜ bytesOf r ≡ pointer (version1 []) (recordsOf 4 end (now (s .entry))) ⌝ }
 {
     let mut p = before;
@@ -58,7 +60,7 @@ pub fn pointer_after(s: &[u8], i: usize, end: usize, before: State) -> State
 
 // The end of the term that follows record i, with its pointer.
 pub fn next_run(s: &[u8], records: usize, i: usize, before: State) -> Walked
-    requires { ⌜ (i < records) × (records ≤ 4096) × (recordSize 4 * records ≤ length (now s)) × (bytesOf before ≡ pointer (version1 []) (recordsOf 4 i (now s))) ⌝ }
+    requires { ⌜ (i < records) × (records ≤ recordMost) × (recordSize 4 * records ≤ length (now s)) × (bytesOf before ≡ pointer (version1 []) (recordsOf 4 i (now s))) ⌝ }
     ensures { λ r. ⌜ (i < r .end) × (r .end ≤ records) × (bytesOf (r .pointer) ≡ pointer (version1 []) (recordsOf 4 (r .end) (now (s .entry)))) × (runsLeft 4 records i (now (s .entry)) ≡ run (recordsOf 4 i (now (s .entry))) (recordsOf 4 (r .end) (now (s .entry))) ∷ runsLeft 4 records (r .end) (now (s .entry))) ⌝ }
 {
     let end = terms::run_end(s, records, i);

@@ -7,14 +7,13 @@ ghost use lib.ListN.{length};
 ghost use Rattle.submission.specs.Reading.{certificateEnd, certificatesEnd, commitEnd};
 ghost use Rattle.submission.specs.Validate.{submissionMost};
 ghost use Rattle.reader.specs.Reader as paper;
-
-// The bytes of a vote's fields, and of signers.
-const BALLOT_SIZE: usize = 46;
-
-const SIGNERS_SIZE: usize = 2;
-
-// The bytes of a commit certificate before its signatures.
-const COMMIT_FIELDS_SIZE: usize = 6;
+use submission::BALLOT_SIZE;
+use submission::COMMIT_FIELDS_SIZE;
+use submission::COMMIT_SIGNERS_AT;
+use submission::LAST_INDEX_AT;
+use submission::LAST_TERM_AT;
+use submission::SIGNERS_SIZE;
+use submission::TERM_AT;
 
 // The numbers of a leader certificate.
 pub struct Certificate {
@@ -89,9 +88,9 @@ pub fn numbers_at(s: &[u8], at: usize) -> Certificate
 {
     Certificate {
         candidate: words::u16_at(s, at),
-        term: words::u32_at(s, at + 2),
-        last_term: words::u32_at(s, at + 6),
-        last_index: words::u32_at(s, at + 10),
+        term: words::u32_at(s, at + TERM_AT),
+        last_term: words::u32_at(s, at + LAST_TERM_AT),
+        last_index: words::u32_at(s, at + LAST_INDEX_AT),
         signers: words::u16_at(s, at + BALLOT_SIZE),
     }
 }
@@ -123,7 +122,7 @@ pub fn read_commit(s: &[u8], at: usize, end: usize, size: usize) -> CommitReadin
         return CommitReading::Refused;
     }
     let index = words::u32_at(s, at);
-    let signers = words::u16_at(s, at + 4);
+    let signers = words::u16_at(s, at + COMMIT_SIGNERS_AT);
     let next = at + COMMIT_FIELDS_SIZE + signatures_size(signers, size);
     if end < next {
         return CommitReading::Refused;

@@ -16,7 +16,7 @@ pub const HEAD_SIZE: usize = 18;
 const PATH_AT: usize = 8 + 32 * (34 + 1) + 4;
 
 // The bits of a mask.
-const MASK_BITS: usize = 16;
+pub const MASK_BITS: usize = 16;
 
 // n, of both bytes.
 pub fn boards(roster: &[u8]) -> usize

@@ -11,9 +11,6 @@ ghost use Rattle.roster.specs.Masks.{boardsOf};
 ghost use Rattle.signatures.specs.Signatures.{goodAll};
 use lm_answer::Answer;
 
-// The bits of a mask.
-const MASK_BITS: usize = 16;
-
 // Whether a signature is board k's on a message.
 pub fn genuine(roster: &[u8], k: usize, message: &[u8], signature: &[u8]) -> bool
     requires { ⌜ (0 < k) × (headSize + keySize * k ≤ length (now roster)) × (length (now message) ≤ limit) ⌝ }
@@ -35,7 +32,7 @@ pub fn all_good(roster: &[u8], message: &[u8], mask: u16, s: &[u8], at: usize, s
     let mut k = 0;
     let mut rest = mask;
     let mut from = at;
-    while k < MASK_BITS {
+    while k < roster::MASK_BITS {
         let bit = rest % 2;
         rest /= 2;
         k += 1;

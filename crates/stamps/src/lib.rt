@@ -14,16 +14,12 @@ ghost use Rattle.submission.specs.View.{runs, leadsOf, stampOf};
 ghost use Rattle.submission.specs.Reading.{ballotSize, recordsOf, certificates, certificatesEnd, stampsAt};
 ghost use Rattle.submission.specs.Validate as paper;
 use sha256::State;
+use submission::LAST_INDEX_AT;
+use submission::LAST_POINTER_AT;
+use submission::TERM_AT;
 
 // A stamp's kind byte.
 const STAMP: u8 = 1;
-
-// Where a vote's term, last index and last pointer stand among its fields.
-const TERM_AT: usize = 2;
-
-const LAST_INDEX_AT: usize = 10;
-
-const LAST_POINTER_AT: usize = 14;
 
 // Whether a stamp is that of the leader certificate at a place: its candidate's, in its term, on the record with an index and a pointer.
 fn stamp_good(
@@ -68,7 +64,7 @@ pub fn stamps_good(
     stamps: usize,
     pointer: State,
 ) -> bool
-    requires { ⌜ (rosterNumber (now roster) ≡ 0) × (records ≤ 4096) × (certificatesEnd 4 size (now s) leaders from ≤ length (now s))
+    requires { ⌜ (rosterNumber (now roster) ≡ 0) × (records ≤ paper.recordMost) × (certificatesEnd 4 size (now s) leaders from ≤ length (now s))
         × (stamps + leaders * size ≤ length (now s)) × (length (runs (recordsOf 4 records (now s))) ≡ leaders)
         × (every (paper.leading (paper.formOf (now roster)) (boards (now roster))) (leadsOf (certificates 4 size (now s) leaders from) (runs (recordsOf 4 records (now s))) (stampsAt size (now s) leaders stamps)) ≡ true)
         × (bytesOf pointer ≡ chain.pointer (chain.version1 []) (recordsOf 4 records (now s))) ⌝ }

@@ -14,9 +14,7 @@ use charges::Receipts;
 use commits::CommitPart;
 use rules::Receipt;
 use rules::Tenure;
-
-// Where a vote's last index stands among its fields.
-const LAST_INDEX_AT: usize = 10;
+use submission::LAST_INDEX_AT;
 
 // The last record of the term before a place, with so many leader certificates from there on.
 fn end_at(s: &[u8], later: usize, next: usize) -> u32

@@ -8,9 +8,7 @@ ghost use Rattle.replica.specs.Ends.{rising};
 ghost use Rattle.submission.specs.View.{run, runs};
 ghost use Rattle.submission.specs.Reading.{recordSize, recordsOf};
 ghost use Rattle.terms.specs.Later.{runsLeft};
-
-// The bytes of a record: term and payload digest.
-pub const RECORD_SIZE: usize = 36;
+use submission::RECORD_SIZE;
 
 // The term of record i, 0 for an empty log.
 pub fn last_term(s: &[u8], i: usize) -> u32

@@ -13,14 +13,11 @@ ghost use Rattle.submission.specs.View.{receiptsOf};
 ghost use Rattle.submission.specs.Reading.{recordSize, recordsOf, signersAt, commitAt, commitEnd};
 ghost use Rattle.submission.specs.Validate as paper;
 use sha256::State;
+use submission::COMMIT_FIELDS_SIZE;
+use submission::COMMIT_SIGNERS_AT;
 
 // A receipt's kind byte.
 const RECEIPT: u8 = 2;
-
-// Where a commit certificate's signers and signatures stand.
-const SIGNERS_AT: usize = 4;
-
-const SIGNATURES_AT: usize = 6;
 
 // Whether the receipts of the commit certificate at a place are good, from the pointer of the record that it names.
 pub fn receipts_good(
@@ -48,9 +45,9 @@ pub fn receipts_good(
     signatures::all_good(
         roster,
         &statement,
-        words::u16_at(s, at + SIGNERS_AT),
+        words::u16_at(s, at + COMMIT_SIGNERS_AT),
         s,
-        at + SIGNATURES_AT,
+        at + COMMIT_FIELDS_SIZE,
         size,
     )
 }

@@ -9,9 +9,7 @@ ghost use Rattle.roster.specs.Roster.{boards, rosterNumber};
 ghost use Rattle.submission.specs.Reading.{signersAt, ballotSize, certificateAt, certificateEnd, certificates, certificatesEnd};
 ghost use Rattle.submission.specs.Validate as paper;
 ghost use Rattle.verification.specs.Votes.{ballots, quorateAll};
-
-// The bytes of a vote's fields.
-const BALLOT_SIZE: usize = 46;
+use submission::BALLOT_SIZE;
 
 // A vote's kind byte.
 const VOTE: u8 = 3;
