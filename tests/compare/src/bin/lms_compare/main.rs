@@ -1,4 +1,4 @@
-//! Compares the library's signature check with this package's own.
+//! Compares the library's signature check with the separately written auditor's.
 //!
 //! lms_compare                               the fixed inputs, then fewer from a fresh seed
 //! SEED=n lms_compare                        the same with that fresh seed
