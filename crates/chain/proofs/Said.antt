@@ -85,12 +85,12 @@ pointer-length form i p [] h = h
 pointer-length form i p (r ∷ l) h =
     pointer-length form (suc i) (sha256 (chainString form (suc i) r p)) l (length-digest (chainString form (suc i) r p))
 
-pub stamp-length : (cluster : List ℕ) (t : ℕ) (l : List Record) → length cluster ≡ 16
-    → length (say (version1 cluster) (stamped t l)) ≡ 57
+pub place-length : (cluster : List ℕ) (t : ℕ) (l : List Record) → length cluster ≡ 16
+    → (length (say (version1 cluster) (stamped t l)) ≡ 57) × (length (say (version1 cluster) (received t l)) ≡ 57)
 unfolding say place version1 pointer
-stamp-length cluster t l h =
+place-length cluster t l h =
     let last = pointer-length (version1 cluster) 0 (replicate 32 0) l refl in
-    simp (length-append, length-be, h) (omega (arith, last))
+    (simp (length-append, length-be, h) (omega (arith, last)), simp (length-append, length-be, h) (omega (arith, last)))
 
 pub vote-length : (cluster : List ℕ) (b : Ballot) → length cluster ≡ 16 → length (b .lastPointer) ≡ 32
     → length (say (version1 cluster) (voted b)) ≡ 63

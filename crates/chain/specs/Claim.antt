@@ -1,5 +1,5 @@
--- What a signature stands on, and its bytes (document 01, "Chain and statements"). A claim has the log itself, the first
--- records up to the index that it names; the pointer is computed only where its bytes are.
+-- What a signature stands on, and its bytes (document 01, "Chain and statements"). A stamp's or a receipt's claim has the log
+-- itself, the first records up to the index that it names; the pointer is computed only where its bytes are. A vote's has the fields as they were sent.
 use mathlib.Core.List.{List, _∷_, _++_}
 use Prim.Native.Nat.{ℕ, _+_}
 use lib.ListN.{length}

@@ -16,7 +16,8 @@ pub enum CommitPart {
     Absent,
 }
 
-// The commit certificate of a laid-out submission.
+// The commit certificate of a laid-out submission. Check 9 has read it before, and handed a refusal up (`layout::commit_stands`): here the proof shows that
+// none comes.
 pub fn commit_part(s: &[u8], size: usize) -> CommitPart
     requires { ⌜ Bounds size (now s) × (laidOut 4 size (now s) ≡ true) ⌝ }
     ensures { λ r. ⌜ r ≡ commitPart size (now (s .entry)) ⌝ }

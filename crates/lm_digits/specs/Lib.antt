@@ -1,2 +1,3 @@
 pub mod Parameters
+pub mod Listed
 pub mod Digits

@@ -18,11 +18,6 @@ oneTime number =
     cond (eqb number 1) (Known (row 1 265 7))
     (cond (eqb number 2) (Known (row 2 133 6)) (cond (eqb number 3) (Known (row 4 67 4)) (cond (eqb number 4) (Known (row 8 34 0)) Unknown)))
 
--- o is a row of the table
-pub record Listed (o : Parameters) : Type 0 where
-  pub number : ℕ
-  pub found : oneTime number ≡ Known o
-
 -- ---- appendix B
 
 -- u: the digits of 32 bytes

@@ -3,7 +3,7 @@
 ghost use mathlib.Core.Path.{_≡_};
 ghost use Prim.Native.Nat.{_≤_};
 ghost use lib.ListN.{length};
-ghost use Rattle.lm_digits.specs.Parameters.{Listed};
+ghost use Rattle.lm_digits.specs.Listed.{Listed};
 ghost use Rattle.lm_format.specs.Format as rfc;
 ghost use Rattle.lm_format.specs.Formed as tests;
 use lm_digits::Parameters;

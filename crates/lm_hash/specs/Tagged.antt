@@ -1,4 +1,4 @@
--- The form of every hash of RFC 8554. u32str, u16str and u8str (3.1.1) are `be 4`, `be 2` and `be 1`; H is SHA-256.
+-- The form of every hash of RFC 8554. u32str, u16str and u8str (3.1) are `be 4`, `be 2` and `be 1`; H is SHA-256.
 use mathlib.Core.List.{List, _++_}
 use Prim.Native.Nat.{ℕ}
 use Rattle.words.specs.BigEndian.{be}

@@ -9,7 +9,7 @@ use lib.ListN.{length, take}
 use lib.Seq.{sets}
 use Rattle.words.proofs.Laws.{take-sets}
 use Rattle.lm_digits.specs.declared.Parameters.{Parameters}
-use Rattle.lm_digits.specs.Parameters.{Listed}
+use Rattle.lm_digits.specs.Listed.{Listed}
 use Rattle.lm_ots.specs.Candidate.{end, ends}
 use Rattle.lm_values.specs.Values.{valueAt}
 use Rattle.lm_digits.proofs.Widths.{width-le, pow-le, shifted-one}

@@ -5,7 +5,7 @@ ghost use lib.ListN.{length, take, drop};
 ghost use Rattle.sha256.specs.Service.{limit};
 ghost use Rattle.sha256.specs.Sha256.{bytesOf};
 ghost use Rattle.lm_hash.specs.Identifier.{identifier};
-ghost use Rattle.lm_digits.specs.Parameters.{Listed};
+ghost use Rattle.lm_digits.specs.Listed.{Listed};
 ghost use Rattle.lm_ots.specs.Candidate as rfc;
 use super::walk;
 use lm_digits::Parameters;

@@ -33,12 +33,13 @@ module _ (o : Parameters) (h : ℕ) (key message signature : List ℕ) where
   unfoldable pub verifies : Bool
   verifies = cond (formed o h key signature) (same rootOf (drop 24 key)) false
 
--- algorithm 6, steps 1 and 2: a type that is not listed is bad
+-- algorithm 6, step 2: the key's types; one that is not listed is bad
 unfoldable pub typed : OneTime → Height → List ℕ → List ℕ → List ℕ → Bool
 typed NoType t key message signature = false
 typed (Known o) Unknown key message signature = false
 typed (Known o) (Levels h) key message signature = verifies o h key message signature
 
+-- algorithm 6, steps 1 and 2: the key's length
 unfoldable pub good : List ℕ → List ℕ → List ℕ → Bool
 good key message signature =
     cond (eqb (length key) keySize) (typed (oneTime (numberAt 4 key 4)) (height (numberAt 4 key 0)) key message signature) false

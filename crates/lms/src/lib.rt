@@ -5,7 +5,7 @@ ghost use lib.ListN.{length, drop};
 ghost use Rattle.words.specs.BigEndian.{numberAt, same};
 ghost use Rattle.sha256.specs.Service.{limit};
 ghost use Rattle.sha256.specs.Sha256.{bytesOf};
-ghost use Rattle.lm_digits.specs.Parameters.{Listed};
+ghost use Rattle.lm_digits.specs.Listed.{Listed};
 ghost use Rattle.lm_format.specs.Format.{keySize, signatureLength};
 ghost use Rattle.lms.specs.Check as rfc;
 use lm_answer::Answer;

@@ -11,7 +11,8 @@ use borrow.Author.Tests.{eq-eqb, eqb-true}
 use lib.Dec.{eqb}
 use lib.ListN.{length, take, drop, length-drop}
 use lib.Seq.{take-take, take-add, drop-at, length-take-le}
-use Rattle.words.specs.BigEndian.{same, Bytes, be, number}
+use Rattle.words.specs.BigEndian.{same, be, number}
+use Rattle.words.proofs.Bytes.{Bytes}
 use Rattle.words.proofs.Same.{same-true, true-same, same-test}
 use Rattle.refusal.proofs.Laws.{cond-true}
 use Rattle.chain.specs.Log.{Record}

@@ -4,7 +4,8 @@ use mathlib.Core.Path.{_≡_}
 use mathlib.Core.List.{List, [], _++_, append-assoc}
 use Prim.Native.Nat.{ℕ, suc, _*_, _≤_}
 use lib.ListN.{length, take, drop}
-use Rattle.words.specs.BigEndian.{be, Bytes}
+use Rattle.words.specs.BigEndian.{be}
+use Rattle.words.proofs.Bytes.{Bytes}
 use Rattle.sha256.specs.Sha256.{sha256}
 use Rattle.chain.specs.Log.{version1, chainString, pointer}
 use Rattle.chain.proofs.Pointers.{pointer-snoc}

@@ -39,8 +39,9 @@ votes : (may none (vote (ballot 2 4 4 2)) ≡ true) × (may none (vote (ballot 3
     × (may none (vote (ballot 0 5 4 2)) ≡ false) × (may none (vote (ballot 4 5 4 2)) ≡ false) × (may none (vote (ballot 1 4 4 2)) ≡ false)
     × (may none (vote (ballot 2 5 4 1)) ≡ false) × (may none (vote (ballot 2 5 3 9)) ≡ false) × (may none (vote (ballot 2 5 5 1)) ≡ true)
     × (may none (vote (ballot 2 5 4 4294967296)) ≡ false)
+    × (may none (vote (ballot 2 4294967296 4 2)) ≡ false) × (may none (vote (ballot 2 5 4294967296 2)) ≡ false)
 unfolding may ready of ballot allowed all rules fitsTerm fitsIndex fitsRecords oneCandidate noStamp noStaler lastTerm termFrom rising staler version1
-votes = (refl, refl, refl, refl, refl, refl, refl, refl, refl, refl)
+votes = (refl, refl, refl, refl, refl, refl, refl, refl, refl, refl, refl, refl)
 
 -- runs: some records kept, one or more new, terms in order and above 0, the last of its own term, no staler, no stamp in this term
 runs : (may none (run 1 (of 4 1 ∷ [])) ≡ true) × (may none (run 0 (of 4 1 ∷ of 4 2 ∷ [])) ≡ true) × (may none (run 3 (of 4 1 ∷ [])) ≡ false)

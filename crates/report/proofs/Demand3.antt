@@ -10,7 +10,7 @@ use native.Mathlib.Nat.{lt-of-lt-of-le}
 use native.Mathlib.Omega.{arith}
 use lib.Dec.{lit<, lit≤}
 use lib.ListN.{drop}
-use Rattle.words.specs.BigEndian.{Bytes}
+use Rattle.words.proofs.Bytes.{Bytes}
 use Rattle.refusal.proofs.Laws.{look}
 use Rattle.roster.specs.Roster.{boards, signatureSize}
 use Rattle.roster.specs.Masks.{signer}

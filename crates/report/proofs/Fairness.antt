@@ -5,7 +5,7 @@ use mathlib.Core.Path.{_≡_}
 use mathlib.Core.Bool.{true}
 use mathlib.Core.List.{List, [], _++_, flatMap, List·Memᴰ, Memᴰ·append-left, Memᴰ·append-right}
 use Prim.Native.Nat.{ℕ, _^_, _<_}
-use Rattle.words.specs.BigEndian.{Bytes}
+use Rattle.words.proofs.Bytes.{Bytes}
 use Rattle.refusal.proofs.Laws.{every-mem}
 use Rattle.lms.specs.Check.{good}
 use Rattle.roster.specs.Roster.{boards, keyOf}

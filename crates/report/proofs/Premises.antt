@@ -11,7 +11,8 @@ use borrow.Author.Tests.{ltb-true}
 use native.Mathlib.Omega.{arith}
 use lib.Dec.{ltb, lit<, lit≤}
 use lib.ListN.{replicate}
-use Rattle.words.specs.BigEndian.{number, be, numberAt, same, Bytes, none, more}
+use Rattle.words.specs.BigEndian.{number, be, numberAt, same}
+use Rattle.words.proofs.Bytes.{Bytes, none, more}
 use Rattle.words.proofs.Same.{same-true}
 use Rattle.refusal.specs.Checks.{all, every, check, refusal}
 use Rattle.refusal.proofs.Laws.{cond-true, every-mem}

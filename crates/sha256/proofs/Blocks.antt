@@ -8,7 +8,8 @@ use native.Mathlib.Numerals.{add-one}
 use native.Mathlib.Omega.{arith}
 use lib.ListN.{length, take, drop, set, length-append, length-drop, length-replicate, drop-of-length-le}
 use lib.Seq.{length-take-le, take-add, drop-drop, take-suc-set, take-append-le, drop-append-le}
-use Rattle.words.specs.BigEndian.{number, numberAt, be, Bytes}
+use Rattle.words.specs.BigEndian.{number, numberAt, be}
+use Rattle.words.proofs.Bytes.{Bytes}
 use Rattle.words.proofs.Laws.{length-be, be-number, bytes-take, bytes-drop}
 use Rattle.sha256.specs.declared.State.{State}
 use Rattle.sha256.specs.Sha256.{parse, compress, blocks, hash, initial, zeros, padding, bytesOf, sha256}

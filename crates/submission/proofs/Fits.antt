@@ -12,7 +12,8 @@ use native.Mathlib.Omega.{arith}
 use borrow.Author.Tests.{eqb-true, leb-true}
 use lib.ListN.{length, take, drop, replicate, length-take, length-drop}
 use lib.Seq.{length-take-le}
-use Rattle.words.specs.BigEndian.{Bytes, numberAt}
+use Rattle.words.specs.BigEndian.{numberAt}
+use Rattle.words.proofs.Bytes.{Bytes}
 use Rattle.words.proofs.Laws.{numberAt-lt, bytes-drop}
 use Rattle.words.proofs.Members.{joined-mem}
 use Rattle.words.proofs.Same.{same-true}

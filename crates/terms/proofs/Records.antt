@@ -8,7 +8,8 @@ use native.Mathlib.Nat.{mul-zero, mul-suc, add-comm}
 use native.Mathlib.Omega.{arith}
 use lib.ListN.{length, take, drop, length-drop}
 use lib.Seq.{drop-drop, take-add, length-take-le}
-use Rattle.words.specs.BigEndian.{number, be, Bytes}
+use Rattle.words.specs.BigEndian.{number, be}
+use Rattle.words.proofs.Bytes.{Bytes}
 use Rattle.words.proofs.Laws.{be-number, bytes-take, bytes-drop}
 use Rattle.chain.specs.Log.{Record, lastTerm}
 use Rattle.replica.proofs.Order.{last-snoc}

@@ -9,7 +9,8 @@ use native.Mathlib.Nat.{add-assoc}
 use native.Mathlib.Omega.{arith}
 use lib.ListN.{length, take, drop, length-drop}
 use lib.Seq.{length-take-le, take-add, drop-drop}
-use Rattle.words.specs.BigEndian.{be, number, numberAt, Bytes}
+use Rattle.words.specs.BigEndian.{be, number, numberAt}
+use Rattle.words.proofs.Bytes.{Bytes}
 use Rattle.words.proofs.Laws.{bytes-take, bytes-drop, be-number}
 use Rattle.refusal.specs.Checks.{every}
 use Rattle.roster.specs.Roster.{cluster, rosterNumber}

@@ -11,7 +11,8 @@ use lib.Pow.{pow-add}
 use lib.Dec.{lit<}
 use lib.ListN.{length, take, drop, getD, length-take, length-drop, length-append, replicate, set}
 use lib.Seq.{take-suc, drop-cons, drop-drop, take-all, take-at, drop-at, length-take-le, sets, sets-eq}
-use Rattle.words.specs.BigEndian.{number, be, numberAt, Bytes, none, more}
+use Rattle.words.specs.BigEndian.{number, be, numberAt}
+use Rattle.words.proofs.Bytes.{Bytes, none, more}
 
 -- ---- powers of 256
 

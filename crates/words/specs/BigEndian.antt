@@ -2,7 +2,7 @@
 -- Width is the count of bytes, and stays a parameter.
 use mathlib.Core.Bool.{Bool, true, false, cond}
 use mathlib.Core.List.{List, [], _∷_}
-use Prim.Native.Nat.{ℕ, zero, suc, _+_, _*_, _/_, _%_, _^_, _<_}
+use Prim.Native.Nat.{ℕ, zero, suc, _+_, _*_, _/_, _%_, _^_}
 use lib.Dec.{eqb}
 use lib.ListN.{length, take, drop}
 
@@ -19,11 +19,6 @@ be (suc width) n = n / 256 ^ width % 256 ∷ be width n
 -- the number that stands in `width` bytes from the place `at` on
 unfoldable pub numberAt : ℕ → List ℕ → ℕ → ℕ
 numberAt width bytes at = number (take width (drop at bytes))
-
--- every element is a byte
-pub data Bytes : List ℕ → Type 0 where
-  none : Bytes []
-  more : {b : ℕ} {bs : List ℕ} → b < 256 → Bytes bs → Bytes (b ∷ bs)
 
 -- whether two lists of bytes are the same
 unfoldable pub same : List ℕ → List ℕ → Bool

@@ -3,7 +3,7 @@
 use borrow.Author.Needs.{needs}
 use Rattle.sha256_tables.specs.Constants.{constants}
 use Rattle.sha256.specs.Sha256.{rounds}
-use Rattle.lm_chain.specs.Chain.{front}
+use Rattle.lm_chain.specs.Front.{front}
 use Rattle.lm_chain.proofs.shared.Statement.{statement}
 use Rattle.lm_chain.proofs.shared.Tie as tie
 

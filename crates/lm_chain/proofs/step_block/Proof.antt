@@ -5,7 +5,7 @@ use Prim.Native.Nat.{_^_, _<_}
 use native.Mathlib.Omega.{arith}
 use Rattle.lm_chain.proofs.StepBlock.{step-words}
 use borrow.Author.Needs.{needs}
-use Rattle.lm_chain.specs.Chain.{front}
+use Rattle.lm_chain.specs.Front.{front}
 use Rattle.lm_chain.proofs.step_block.Statement.{statement}
 use Rattle.lm_chain.proofs.step_block.Tie as tie
 

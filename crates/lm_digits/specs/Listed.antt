@@ -1,0 +1,11 @@
+-- What the code above asks of parameters.
+use mathlib.Core.Path.{_≡_}
+use Prim.Native.Nat.{ℕ}
+use Rattle.lm_digits.specs.declared.Parameters.{Parameters}
+use Rattle.lm_digits.specs.declared.OneTime.the-variants.{Known}
+use Rattle.lm_digits.specs.Parameters.{oneTime}
+
+-- o is a row of the table
+pub record Listed (o : Parameters) : Type 0 where
+  pub number : ℕ
+  pub found : oneTime number ≡ Known o
