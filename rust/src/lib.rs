@@ -51,7 +51,7 @@ pub fn lms_check(key: &[u8], message: &[u8], signature: &[u8]) -> Verdict {
 pub fn audit(roster: &[u8], first: &[u8], second: &[u8]) -> Result<Findings, Refused> {
     let mut bytes = [0; REPORT_SIZE];
     audit_into(roster, first, second, &mut bytes);
-    read_report(&bytes)
+    read_report(&bytes).expect("a number and a place of document 01")
 }
 
 /// The audit as C has it: the number, with the report's bytes in the buffer's first 53. With number

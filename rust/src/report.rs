@@ -128,21 +128,23 @@ impl Findings {
     }
 }
 
-/// Takes a report apart that the library has written, as `audit` does.
-pub fn read_report(bytes: &[u8; REPORT_SIZE]) -> Result<Findings, Refused> {
-    if let Some(refusal) = Refusal::of(bytes[0]) {
-        let place = match bytes[1] {
-            1 => Place::First,
-            2 => Place::Second,
-            _ => Place::Roster,
-        };
-        return Err(Refused { refusal, place });
+/// Takes a report apart that the library has written, as `audit` does; nothing if no report has
+/// this number and place.
+pub fn read_report(bytes: &[u8; REPORT_SIZE]) -> Option<Result<Findings, Refused>> {
+    let place = match bytes[1] {
+        0 => Place::Roster,
+        1 => Place::First,
+        2 => Place::Second,
+        _ => return None,
+    };
+    if bytes[0] != 0 {
+        return Refusal::of(bytes[0]).map(|refusal| Err(Refused { refusal, place }));
     }
     let fork = u32_at(bytes, 2);
     let named = u16::from_be_bytes([bytes[6], bytes[7]]);
     let charge = |k: usize| Charge { rule: bytes[8 + 5 * k], term: u32_at(bytes, 9 + 5 * k) };
     let charges = std::array::from_fn(|k| (named >> k & 1 == 1).then(|| charge(k)));
-    Ok(Findings { fork: (fork != 0).then_some(fork), charges })
+    Some(Ok(Findings { fork: (fork != 0).then_some(fork), charges }))
 }
 
 fn u32_at(bytes: &[u8], at: usize) -> u32 {
@@ -157,29 +159,34 @@ mod tests {
     #[test]
     fn places() {
         let mut bytes = [0; REPORT_SIZE];
-        assert_eq!(read_report(&bytes), Ok(Findings { fork: None, charges: [None; 9] }));
+        assert_eq!(read_report(&bytes), Some(Ok(Findings { fork: None, charges: [None; 9] })));
         bytes[2..8].copy_from_slice(&[1, 2, 3, 4, 1, 2]);
         bytes[13..18].copy_from_slice(&[3, 5, 6, 7, 8]);
         bytes[48..].copy_from_slice(&[4, 255, 255, 255, 255]);
-        let found = read_report(&bytes).expect("accepted");
+        let found = read_report(&bytes).expect("a report").expect("accepted");
         assert_eq!(found.fork, Some(0x01020304));
         let two = Charge { rule: 3, term: 0x05060708 };
         let nine = Charge { rule: 4, term: u32::MAX };
         assert_eq!(found.named().collect::<Vec<_>>(), [(2, two), (9, nine)]);
     }
 
-    /// Numbers 2 to 15 are refusals, each in the place that byte 1 names.
+    /// Numbers 2 to 15 are refusals, each in the place that byte 1 names; others are no report's.
     #[test]
     fn refusals() {
         for number in 2..=15 {
             for (where_, place) in [(0, Place::Roster), (1, Place::First), (2, Place::Second)] {
                 let mut bytes = [0; REPORT_SIZE];
                 bytes[..2].copy_from_slice(&[number, where_]);
-                let refused = read_report(&bytes).expect_err("refused");
+                let refused = read_report(&bytes).expect("a report").expect_err("refused");
                 assert_eq!((refused.refusal.number(), refused.place), (number, place));
             }
         }
         assert_eq!([0, 1, 16, 255].map(Refusal::of), [None; 4]);
+        for (number, where_) in [(1, 0), (16, 0), (255, 1), (0, 3), (5, 3)] {
+            let mut bytes = [0; REPORT_SIZE];
+            bytes[..2].copy_from_slice(&[number, where_]);
+            assert_eq!(read_report(&bytes), None);
+        }
         let refused = Refused { refusal: Refusal::TwinKey, place: Place::Roster };
         assert_eq!(refused.to_string(), "twin key in the roster");
     }

@@ -54,7 +54,7 @@ pub fn ask_null(case: &Case) -> Answer {
 /// What the wrapper reads from the library's report, written as the auditor's findings.
 pub fn findings(report: &[u8]) -> Findings {
     let bytes = report[..REPORT_SIZE].try_into().expect("a report's bytes");
-    match hirelog::read_report(bytes) {
+    match hirelog::read_report(bytes).expect("a number and a place of document 01") {
         Err(Refused { refusal, place }) => {
             Findings { number: refusal.number(), place: place as u8, ..Findings::default() }
         }

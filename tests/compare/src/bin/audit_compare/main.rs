@@ -36,11 +36,12 @@ fn main() {
     let arguments: Vec<String> = env::args().skip(1).collect();
     match &arguments.iter().map(String::as_str).collect::<Vec<_>>()[..] {
         [] => {
+            let seed = seed();
             compare_fixed();
-            compare_fresh();
+            compare_fresh(seed);
         }
         ["fixed"] => compare_fixed(),
-        ["fresh"] => compare_fresh(),
+        ["fresh"] => compare_fresh(seed()),
         ["replay", folder] => {
             let mut comparison = Comparison::new(REPLAY);
             replay::read(folder, &mut |case| comparison.compare(case));
@@ -48,6 +49,10 @@ fn main() {
         }
         _ => stop("use: audit_compare [fixed | fresh | replay FOLDER]"),
     }
+}
+
+fn seed() -> u64 {
+    fresh_seed().unwrap_or_else(|why| stop(why))
 }
 
 /// The fixed set, in which every number comes.
@@ -64,8 +69,7 @@ fn compare_fixed() {
 }
 
 /// The fresh set, and the premises of fairness.
-fn compare_fresh() {
-    let seed = fresh_seed().unwrap_or_else(|why| stop(why));
+fn compare_fresh(seed: u64) {
     println!("audit_compare: SEED={seed} gives this run's fresh set again");
     let mut comparison = Comparison::new(&format!("fresh set of SEED={seed}"));
     cases::run(seed, Size::Small, &mut |case| comparison.compare(case));

@@ -2,6 +2,7 @@
 
 use crate::library::Answer;
 use crate::stop;
+use auditor::audit::REPORT_SIZE;
 use auditor::cases::{Case, Expect};
 use std::path::Path;
 use std::{fs, io};
@@ -26,15 +27,20 @@ pub fn write(
     Ok(())
 }
 
-/// Hands on the case that the folder holds.
+/// Hands on the case that the folder holds; without a `report_length` it has a report's 53 bytes.
 pub fn read(folder: &str, take: &mut dyn FnMut(&Case)) {
     let file = |name: &str| {
         let path = Path::new(folder).join(name);
         fs::read(&path).unwrap_or_else(|error| stop(&format!("{}: {error}", path.display())))
     };
     let (roster, first, second) = (file("roster"), file("first"), file("second"));
-    let length = String::from_utf8_lossy(&file("report_length")).trim().parse();
-    let report = length.unwrap_or_else(|_| stop("report_length holds no number: write one"));
+    let report = match fs::read_to_string(Path::new(folder).join("report_length")) {
+        Err(error) if error.kind() == io::ErrorKind::NotFound => REPORT_SIZE,
+        length => length
+            .ok()
+            .and_then(|length| length.trim().parse().ok())
+            .unwrap_or_else(|| stop("report_length holds no number: write one")),
+    };
     take(&Case {
         name: folder.into(),
         roster: &roster,
