@@ -23,7 +23,7 @@ pub fn quorate(n: usize, mask: u16) -> bool
     (mask as u32) < 1 << n
 }
 
-// Whether the signers of so many leader certificates from a place on are so. They end before the end, so that no reading is refused.
+// Whether the signers of so many leader certificates from a place on are so. All of them lie before `end`, so that no reading is refused.
 fn leaders_quorate(s: &[u8], n: usize, count: usize, from: usize, end: usize, size: usize) -> bool
     requires { ⌜ (0 < n) × (n ≤ 9) × (end ≤ length (now s)) × (length (now s) ≤ paper.submissionMost) × (size ≤ signatureMost)
         × (certificatesEnd 4 size (now s) count from ≤ end) ⌝ }
