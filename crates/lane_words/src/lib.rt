@@ -12,13 +12,6 @@ use functions::word;
 // A word in each lane.
 pub struct Lanes(pub u32, pub u32, pub u32, pub u32);
 
-// The working variables a and e after a round (FIPS 180-4, 6.2.2); the others are older values of
-// these two.
-pub struct Pair {
-    pub a: Lanes,
-    pub e: Lanes,
-}
-
 pub fn same(x: u32) -> Lanes
     ensures { λ r. ⌜ ((l : Lane) → lane l r ≡ x) ⌝ }
 {
@@ -56,36 +49,4 @@ pub fn put(w: &mut [u32], i: usize, v: Lanes)
     w[n + 1] = v.1;
     w[n + 2] = v.2;
     w[n + 3] = v.3;
-}
-
-// The values of a and e at place i of a list in which they stand one after the other.
-pub fn pair_at(x: &[u32], i: usize) -> Pair
-    requires { ⌜ 8 * i + 8 ≤ length (now x) ⌝ }
-    ensures { λ r. ⌜ ((l : Lane) → (lane l (r .a) ≡ wordIn l (now (x .entry)) (2 * i)) × (lane l (r .e) ≡ wordIn l (now (x .entry)) (2 * i + 1))) ⌝ }
-{
-    Pair {
-        a: at(x, 2 * i),
-        e: at(x, 2 * i + 1),
-    }
-}
-
-pub fn put_pair(x: &mut [u32], i: usize, p: Pair)
-    requires { ⌜ 8 * i + 8 ≤ length (now x) ⌝ }
-    ensures { λ _. ⌜ ((l : Lane) (k : ℕ) → wordIn l (now (x .exit)) k
-        ≡ changed (2 * i + 1) (lane l (p .e)) (changed (2 * i) (lane l (p .a)) (wordIn l (now (x .entry)))) k) ⌝ }
-{
-    put(x, 2 * i, p.a);
-    put(x, 2 * i + 1, p.e);
-}
-
-// Puts values of a and e, the same in each lane.
-pub fn put_same(x: &mut [u32], i: usize, a: u32, e: u32)
-    requires { ⌜ 8 * i + 8 ≤ length (now x) ⌝ }
-    ensures { λ _. ⌜ ((l : Lane) (k : ℕ) → wordIn l (now (x .exit)) k ≡ changed (2 * i + 1) e (changed (2 * i) a (wordIn l (now (x .entry)))) k) ⌝ }
-{
-    let p = Pair {
-        a: same(a),
-        e: same(e),
-    };
-    put_pair(x, i, p);
 }

@@ -48,7 +48,7 @@ fn fewest(last: u32, j: Lanes) -> u32
 
 // The values of four chains n steps on.
 fn run(leaf: Leaf, n: u32, i0: usize, i1: usize, i2: usize, i3: usize, j: Lanes, v: &[u32]) -> Four
-    requires { ⌜ (length (now v) ≡ 2120) × (i0 < 265) × (i1 < 265) × (i2 < 265) × (i3 < 265) × ((l : Lane) → lane l j + n ≤ 256) ⌝ }
+    requires { ⌜ (length (now v) ≡ 2120) × (i0 < 265) × (i1 < 265) × (i2 < 265) × (i3 < 265) × ((l : Lane) → lane l j + n < 256) ⌝ }
     ensures { λ r. ⌜ ((l : Lane) → bytesOf (state l r) ≡ chain (identifier leaf) (leaf .q) (pick l i0 i1 i2 i3) n (lane l j) (valueAt (now (v .entry)) (pick l i0 i1 i2 i3))) ⌝ }
 {
     let i = Lanes(i0 as u32, i1 as u32, i2 as u32, i3 as u32);
