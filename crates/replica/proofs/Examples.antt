@@ -10,9 +10,9 @@ use lib.ListN.{replicate}
 use Rattle.words.specs.BigEndian.{same}
 use Rattle.refusal.specs.Checks.{all}
 use Rattle.chain.specs.Log.{version1, Record, termFrom, lastTerm}
-use Rattle.chain.specs.Claim.{Ballot}
+use Rattle.chain.specs.Claim.{Ballot, stamped, received, voted}
 use Rattle.replica.specs.Ends.{rising, staler}
-use Rattle.replica.specs.Replica.{State, Act, raise, vote, run, add, stamp, receipt, decline, restart, fitsTerm, fitsIndex, fitsRecords, oneCandidate, noStamp, noStaler, rules, allowed}
+use Rattle.replica.specs.Replica.{State, Act, raise, vote, run, add, stamp, receipt, decline, restart, fitsTerm, fitsIndex, fitsRecords, oneCandidate, noStamp, noStaler, rules, allowed, first, after, signs, keeps, signed, held}
 use Rattle.replica.specs.Charges.{twoVotes, twoStamps, staleVote, agree, sameRecord}
 
 -- a record of a term, with one byte of its payload digest
@@ -79,3 +79,49 @@ charges : (twoStamps 1 (of 1 0 ∷ []) 1 (of 1 0 ∷ of 1 1 ∷ []) ≡ false) �
     × (twoVotes (ballot 1 4 3 1) (ballot 2 5 3 1) ≡ false) × (twoVotes (ballot 1 4 3 1) (ballot 2 4 3 1) ≡ true)
 unfolding of ballot twoStamps agree sameRecord same twoVotes
 charges = (refl, refl, refl, refl, refl, refl)
+
+-- ---- what the rules leave open: an act is allowed that a stricter rule would forbid
+
+-- the first vote of all, in term 0 too; a candidate whose last term is above the vote's; a vote after a stamp in the term; the largest numbers
+open-votes : (at 1 [] (vote (ballot 1 1 0 0)) ≡ true) × (at 0 [] (vote (ballot 3 0 0 0)) ≡ true) × (may none (vote (ballot 2 5 9 1)) ≡ true)
+    × (may (some 4) (vote (ballot 2 4 4 2)) ≡ true) × (may none (vote (ballot 2 4294967295 4294967295 4294967295)) ≡ true) × (may none (raise 4294967295) ≡ true)
+unfolding may at ready of ballot allowed all rules fitsTerm fitsIndex fitsRecords oneCandidate noStamp noStaler lastTerm termFrom rising staler version1
+open-votes = (refl, refl, refl, refl, refl, refl)
+
+-- a run that only adds, on an empty log too; one that ends in another term's record, above or below its own; a digest of 31 bytes
+open-runs : (may none (run 2 (of 4 1 ∷ [])) ≡ true) × (at 1 [] (run 0 (of 1 1 ∷ [])) ≡ true) × (may none (run 2 (of 5 1 ∷ [])) ≡ false)
+    × (at 5 (of 3 0 ∷ []) (run 1 (of 4 1 ∷ [])) ≡ false) × (may none (run 1 (record { term = 4; digest = replicate 31 0 } ∷ [])) ≡ false)
+unfolding may at ready of ballot allowed all rules fitsTerm fitsIndex fitsRecords oneCandidate noStamp noStaler lastTerm termFrom rising staler version1
+open-runs = (refl, refl, refl, refl, refl)
+
+-- after a stamp in the term: another stamp, a record, a receipt; a receipt for a record that is not the last; none for record 0
+open-others : (may (some 4) stamp ≡ true) × (may (some 4) (add (of 4 7)) ≡ true) × (may (some 4) (receipt 2) ≡ true)
+    × (at 4 (of 4 0 ∷ of 4 1 ∷ []) (receipt 1) ≡ true) × (at 0 [] (receipt 0) ≡ false)
+unfolding may at ready of ballot allowed all rules fitsTerm fitsIndex fitsRecords oneCandidate noStamp noStaler lastTerm termFrom rising staler version1
+open-others = (refl, refl, refl, refl, refl)
+
+-- ---- states, statements, logs
+
+-- the first state; and what each act leaves of a state: term, vote, stamp, log
+begins : first ≡ record { term = 0; vote = none; stamp = none; log = [] }
+unfolding first
+begins = refl
+
+leaves : (let s = ready (some 3) in (after s (raise 6) ≡ record { term = 6; vote = s .vote; stamp = s .stamp; log = s .log })
+    × (after s (vote (ballot 3 5 4 2)) ≡ record { term = 5; vote = some (ballot 3 5 4 2); stamp = s .stamp; log = s .log })
+    × (after s (run 1 (of 4 1 ∷ of 4 2 ∷ [])) ≡ record { term = 4; vote = s .vote; stamp = s .stamp; log = of 3 0 ∷ of 4 1 ∷ of 4 2 ∷ [] })
+    × (after s (add (of 4 7)) ≡ record { term = 4; vote = s .vote; stamp = s .stamp; log = of 3 0 ∷ of 4 0 ∷ of 4 7 ∷ [] })
+    × (after s stamp ≡ record { term = 4; vote = s .vote; stamp = some 4; log = s .log }) × (after s (receipt 1) ≡ s) × (after s decline ≡ s)
+    × (after s restart ≡ s))
+unfolding after ready of ballot
+leaves = (refl, refl, refl, refl, refl, refl, refl, refl)
+
+-- each act in one story: what is signed, and the logs held, with the first and the last
+story : List Act
+story = vote (ballot 2 1 0 0) ∷ run 0 (of 1 1 ∷ of 1 2 ∷ []) ∷ receipt 1 ∷ decline ∷ raise 2 ∷ add (of 2 3) ∷ stamp ∷ restart ∷ []
+
+told : (let l = of 1 1 ∷ of 1 2 ∷ [] in let m = of 1 1 ∷ of 1 2 ∷ of 2 3 ∷ [] in (keeps (version1 (replicate 16 0)) 3 first story ≡ true)
+    × (signed first story ≡ voted (ballot 2 1 0 0) ∷ received 1 (of 1 1 ∷ []) ∷ stamped 2 m ∷ [])
+    × (held first story ≡ [] ∷ [] ∷ l ∷ l ∷ l ∷ l ∷ m ∷ m ∷ m ∷ []))
+unfolding story of ballot first keeps signed held signs after allowed all rules fitsTerm fitsIndex fitsRecords oneCandidate noStamp noStaler lastTerm termFrom rising staler version1
+told = (refl, refl, refl)

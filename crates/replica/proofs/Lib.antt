@@ -2,3 +2,6 @@ mod Examples
 pub mod Order
 pub mod Honest
 pub mod Signed
+mod Case
+mod BoardActs
+mod Outcomes

@@ -4,3 +4,4 @@ mod Fairness
 pub mod Figures
 pub mod Demand3
 mod Premises
+mod Strength

@@ -21,9 +21,10 @@ use Rattle.lm_format.specs.Format.{height, signatureLength, pathAt, oneTimeByte
 use Rattle.roster.specs.Roster.{cluster, boards, keyOf, treeType, oneTimeType, levels, signatureSize, everyBoard, sized, typed, single, rosterNumber}
 use Rattle.roster.specs.Masks.{signer}
 use Rattle.chain.specs.Log.{version1, Record, chainString, chainFrom, chainStrings, termFrom, lastTerm}
+use Rattle.chain.specs.Claim.{Ballot}
 use Rattle.chain.specs.Apart.{Apart}
-use Rattle.replica.specs.Ends.{rising}
-use Rattle.replica.specs.Replica.{Act, raise, add, stamp, receipt, first, fitsTerm, fitsIndex, fitsRecords, rules, allowed, after, keeps, held}
+use Rattle.replica.specs.Ends.{rising, staler}
+use Rattle.replica.specs.Replica.{Act, raise, vote, run, add, stamp, receipt, decline, restart, first, fitsTerm, fitsIndex, fitsRecords, oneCandidate, noStamp, noStaler, rules, allowed, after, keeps, held}
 use Rattle.submission.specs.Trailer.{name, word, recordCount, leaderCount, distance, version}
 use Rattle.submission.specs.View.{runs, runsAfter, leads, leadsOf, slots, receiptsOf}
 use Rattle.submission.specs.Reading.{view, laidOut, recordSize, recordsOf, certificates, certificatesEnd, stampsAt, leadersFrom, stampsFrom, commitFrom, commitOf}
@@ -41,15 +42,18 @@ three = sampleRoster 3 (1 ∷ 2 ∷ 3 ∷ [])
 one : Record
 one = record { term = 1; digest = replicate 32 0 }
 
+ballot : Ballot
+ballot = record { candidate = 3; term = 1; lastTerm = 0; lastIndex = 0; lastPointer = replicate 32 0 }
+
 acts : List Act
-acts = raise 1 ∷ add one ∷ stamp ∷ receipt 1 ∷ []
+acts = raise 1 ∷ vote ballot ∷ add one ∷ run 0 (one ∷ []) ∷ stamp ∷ stamp ∷ receipt 1 ∷ decline ∷ restart ∷ []
 
 buffer : List ℕ
 buffer = replicate 53 0
 
 -- the acts keep the rules
 kept : keeps (formOf three) (boards three) first acts ≡ true
-unfolding three one acts sampleRoster sampleKey be flatMap cluster boards numberAt number formOf version1 first keeps allowed all rules after fitsTerm fitsIndex fitsRecords
+unfolding three one ballot acts sampleRoster sampleKey be flatMap cluster boards numberAt number formOf version1 first keeps allowed all rules after fitsTerm fitsIndex fitsRecords oneCandidate noStamp noStaler rising staler
     lastTerm termFrom
 kept = refl
 
@@ -65,7 +69,7 @@ string : List ℕ
 string = chainString (formOf three) 1 one (replicate 32 0)
 
 one-string : every (λ x. same x string) (strings three sampleSubmission sampleSubmission acts) ≡ true
-unfolding every same string strings three one acts sampleRoster sampleKey sampleSubmission be number numberAt flatMap cluster keyOf treeType levels signatureSize signatureLength
+unfolding every same string strings three one ballot acts sampleRoster sampleKey sampleSubmission be number numberAt flatMap cluster keyOf treeType levels signatureSize signatureLength
     pathAt oneTimeBytes row height word recordCount leaderCount distance view recordSize recordsOf certificates certificatesEnd stampsAt leadersFrom stampsFrom commitFrom commitOf
     formOf version1 viewOf first held after chainStrings chainFrom chainString
 one-string = refl

@@ -50,9 +50,21 @@ fields : (versioned none-at-all ≡ true) × (versioned (trailer 0 0 (0 ∷ 0 �
 unfolding none-at-all trailer versioned version named name counted recordCount leaderCount word all numberAt number be same flatMap
 fields = (refl, refl, refl, refl, refl, refl, refl, refl)
 
--- one record of 36 bytes, a leader certificate of 48 bytes with two signatures, a stamp, a commit certificate of 6 bytes with two signatures
+-- a record of 36 bytes: term and payload digest; a vote's fields, 46 bytes: candidate, term, last term, last index and last pointer. No two
+-- fields have a byte in common
+logged-one : Record
+logged-one = record { term = 0x01020304; digest = 5 ∷ replicate 30 6 ++ (7 ∷ []) }
+
+vote : Ballot
+vote = record { candidate = 0x1011; term = 0x12131415; lastTerm = 0x16171819; lastIndex = 0x1a1b1c1d; lastPointer = 30 ∷ replicate 30 31 ++ (32 ∷ []) }
+
+vote-bytes : List ℕ
+vote-bytes = (16 ∷ 17 ∷ 18 ∷ 19 ∷ 20 ∷ 21 ∷ 22 ∷ 23 ∷ 24 ∷ 25 ∷ 26 ∷ 27 ∷ 28 ∷ 29 ∷ 30 ∷ []) ++ replicate 30 31 ++ (32 ∷ [])
+
+-- one record, a leader certificate of 48 bytes with two signatures, a stamp, a commit certificate of 6 bytes with two signatures
 parts : List ℕ
-parts = replicate 36 1 ++ replicate 46 2 ++ be 2 3 ++ (10 ∷ 11 ∷ 12 ∷ []) ++ be 4 1 ++ be 2 5 ++ (13 ∷ 14 ∷ [])
+parts =
+    (1 ∷ 2 ∷ 3 ∷ 4 ∷ 5 ∷ []) ++ replicate 30 6 ++ (7 ∷ []) ++ vote-bytes ++ be 2 3 ++ (10 ∷ 11 ∷ 12 ∷ []) ++ be 4 1 ++ be 2 5 ++ (13 ∷ 14 ∷ [])
 
 laid : List ℕ → Bool
 laid distances = laidOut 4 1 (parts ++ trailer 1 1 distances 1)
@@ -64,18 +76,15 @@ layouts : (laid (95 ∷ 59 ∷ 9 ∷ 8 ∷ []) ≡ true) × (laid (94 ∷ 59 ∷
     × (laidOut 4 1 (parts ++ (15 ∷ []) ++ trailer 1 1 (96 ∷ 60 ∷ 10 ∷ 9 ∷ []) 1) ≡ false)
     × (laidOut 4 1 (take 87 parts ++ trailer 1 1 (87 ∷ 51 ∷ 1 ∷ 0 ∷ []) 1) ≡ true)
     × (laidOut 4 1 none-at-all ≡ true) × (laidOut 4 1 (trailer 4096 0 (0 ∷ 0 ∷ 0 ∷ 0 ∷ []) 1) ≡ false)
-unfolding laid parts form version1 none-at-all trailer laidOut leadersFrom stampsFrom commitFrom commitEnd certificatesEnd certificateEnd signersAt recordSize ballotSize
+unfolding laid parts vote-bytes form version1 none-at-all trailer laidOut leadersFrom stampsFrom commitFrom commitEnd certificatesEnd certificateEnd signersAt recordSize ballotSize
     distance recordCount leaderCount word all numberAt number be flatMap ones onesIn
 layouts = (refl, refl, refl, refl, refl, refl, refl, refl, refl, refl, refl)
 
 -- what is read: the record, the ballot's fields, whose signature each byte is
 reading : (slots 1 (view 4 1 (parts ++ trailer 1 1 (95 ∷ 59 ∷ 9 ∷ 8 ∷ []) 1))
-    ≡ slot 1 (voted (record { candidate = 514; term = 33686018; lastTerm = 33686018; lastIndex = 33686018; lastPointer = replicate 32 2 })) (10 ∷ []) ∷
-    slot 2 (voted (record { candidate = 514; term = 33686018; lastTerm = 33686018; lastIndex = 33686018; lastPointer = replicate 32 2 })) (11 ∷ []) ∷
-    slot 514 (stamped 16843009 (record { term = 16843009; digest = replicate 32 1 } ∷ [])) (12 ∷ []) ∷
-    slot 1 (received 16843009 (record { term = 16843009; digest = replicate 32 1 } ∷ [])) (13 ∷ []) ∷
-    slot 3 (received 16843009 (record { term = 16843009; digest = replicate 32 1 } ∷ [])) (14 ∷ []) ∷ [])
-unfolding slots view parts form version1 trailer leadersFrom stampsFrom commitFrom commitOf commitAt certificatesEnd certificateEnd certificates certificateAt ballotAt
+    ≡ slot 1 (voted vote) (10 ∷ []) ∷ slot 2 (voted vote) (11 ∷ []) ∷ slot 0x1011 (stamped 0x01020304 (logged-one ∷ [])) (12 ∷ [])
+    ∷ slot 1 (received 0x01020304 (logged-one ∷ [])) (13 ∷ []) ∷ slot 3 (received 0x01020304 (logged-one ∷ [])) (14 ∷ []) ∷ [])
+unfolding slots view parts logged-one vote vote-bytes form version1 trailer leadersFrom stampsFrom commitFrom commitOf commitAt certificatesEnd certificateEnd certificates certificateAt ballotAt
     stampsAt signersAt recordSize ballotSize recordsOf leads leadsOf runs runsAfter runsFrom run votesOf stampOf receiptsOf certified slot boardsOf boardsFrom lastTerm termFrom
     distance recordCount leaderCount word numberAt number be flatMap ones onesIn
 reading = refl

@@ -1,6 +1,7 @@
 //! A simulated district: replicas that act by document 01's board rules, honest and cheating,
 //! and the submissions that what they signed allows.
 
+pub mod acts;
 pub mod premises;
 mod replica;
 mod signed;
@@ -174,7 +175,8 @@ impl District {
         }
         for _ in 0..1 + random.below(2) {
             let payload = self.payload();
-            self.lives[life].replica.add(payload);
+            let replica = &mut self.lives[life].replica;
+            replica.add(Record { term: replica.term, payload });
         }
         // Before the stamp an honest leader may yet change its mind.
         if random.below(5) == 0 {

@@ -28,11 +28,12 @@ impl Past {
                     past.sign(replica.vote(vote, n).then(|| statement::vote(name, vote)))
                 }
                 Act::Take(keep, run) => replica.take(*keep, run),
-                Act::Add(payload) => replica.add(*payload),
+                Act::Add(record) => replica.add(*record),
                 Act::Stamp => past.sign(replica.stamp().map(|at| statement::stamp(name, &at))),
                 Act::Receipt(index) => {
                     past.sign(replica.receipt(*index).map(|at| statement::receipt(name, &at)))
                 }
+                Act::Decline | Act::Restart => true,
             };
             if !kept {
                 return None;
@@ -97,7 +98,7 @@ mod tests {
         let records = log(&[(1, "a")]);
         let draft = cluster.submission(&records, &[(1, 0b011)], Some((1, 0b101)));
         let vote = draft.leaders[0].vote;
-        let acts = [Act::Vote(vote), Act::Add(records[0].payload), Act::Stamp, Act::Receipt(1)];
+        let acts = [Act::Vote(vote), Act::Add(records[0]), Act::Stamp, Act::Receipt(1)];
         let past = Past::of(&acts, 3, &roster.name).expect("the acts keep the rules");
         let read = Submission::read(roster, &draft.bytes(), &mut Verdicts::default());
         (past, read.expect("the submission is accepted"))

@@ -17,28 +17,29 @@ pub struct Cheats {
     pub forgets: bool,
 }
 
-/// What a replica has done. Declining and restarting change nothing, and are not kept.
-#[derive(Clone, Debug)]
+/// What a replica may do.
+#[derive(Clone, Debug, PartialEq)]
 pub enum Act {
     Raise(u32),
     Vote(Vote),
     Take(usize, Vec<Record>),
-    Add([u8; 32]),
+    Add(Record),
     Stamp,
     Receipt(usize),
+    Decline,
+    Restart,
 }
 
 #[derive(Clone, Debug)]
 pub struct Replica {
     pub number: u16,
     pub term: u32,
-    /// The last vote's term and candidate.
-    pub last_vote: Option<(u32, u16)>,
+    pub last_vote: Option<Vote>,
     /// The last stamp's term.
     pub last_stamp: Option<u32>,
     pub log: Vec<Record>,
     pub cheats: Cheats,
-    /// What it has done so far.
+    /// What it has done so far. Declining and restarting change nothing, and are not kept.
     pub acts: Vec<Act>,
 }
 
@@ -60,6 +61,19 @@ impl Replica {
         end_of(&self.log)
     }
 
+    /// Does an act as one of n replicas, if it may.
+    pub fn act(&mut self, act: &Act, n: usize) -> bool {
+        match act {
+            Act::Raise(term) => self.raise(*term),
+            Act::Vote(vote) => self.vote(vote, n),
+            Act::Take(keep, run) => self.take(*keep, run),
+            Act::Add(record) => self.add(*record),
+            Act::Stamp => self.stamp().is_some(),
+            Act::Receipt(index) => self.receipt(*index).is_some(),
+            Act::Decline | Act::Restart => true,
+        }
+    }
+
     /// Raises the term, which never falls.
     pub fn raise(&mut self, term: u32) -> bool {
         if term < self.term {
@@ -72,7 +86,9 @@ impl Replica {
 
     /// Votes, if it may.
     pub fn vote(&mut self, vote: &Vote, n: usize) -> bool {
-        let twice = self.last_vote.is_some_and(|(t, c)| t == vote.term && c != vote.candidate);
+        let twice = self
+            .last_vote
+            .is_some_and(|last| last.term == vote.term && last.candidate != vote.candidate);
         if vote.term < self.term
             || !(1..=n).contains(&(vote.candidate as usize))
             || (twice && !self.cheats.votes_twice)
@@ -87,7 +103,7 @@ impl Replica {
             return false;
         }
         self.term = vote.term;
-        self.last_vote = Some((vote.term, vote.candidate));
+        self.last_vote = Some(*vote);
         self.acts.push(Act::Vote(*vote));
         true
     }
@@ -114,13 +130,13 @@ impl Replica {
         true
     }
 
-    /// Adds a record of its own term, if that is above 0.
-    pub fn add(&mut self, payload: [u8; 32]) -> bool {
-        if self.term == 0 {
+    /// Adds a record, if it has the replica's own term and that is above 0.
+    pub fn add(&mut self, record: Record) -> bool {
+        if record.term != self.term || self.term == 0 {
             return false;
         }
-        self.log.push(Record { term: self.term, payload });
-        self.acts.push(Act::Add(payload));
+        self.log.push(record);
+        self.acts.push(Act::Add(record));
         true
     }
 
@@ -206,7 +222,7 @@ mod tests {
         let mut replica = in_term_3();
         assert!(replica.stamp().is_some());
         assert!(!replica.take(2, &[record(3)]), "it has stamped in this term");
-        assert!(replica.add([9; 32]) && replica.stamp().is_some());
+        assert!(replica.add(record(3)) && replica.stamp().is_some());
         assert!(replica.raise(4) && replica.take(2, &[record(4)]), "not in the next");
     }
 
@@ -221,6 +237,27 @@ mod tests {
         assert_eq!(replica.stamp(), Some(at));
         assert!(!replica.raise(2) && replica.raise(4));
         assert!(replica.stamp().is_none() && replica.receipt(2).is_none());
-        assert!(!Replica::new(1).add([0; 32]), "a record of term 0");
+    }
+
+    /// Records are added in its own term only, and never in term 0.
+    #[test]
+    fn adds() {
+        let mut replica = in_term_3();
+        assert!(!replica.add(record(2)) && !replica.add(record(4)), "another term than its own");
+        assert!(replica.add(record(3)) && replica.log.len() == 3);
+        assert!(!Replica::new(1).add(record(0)), "a record of term 0");
+    }
+
+    /// Each act goes to its own rules; declining and restarting are always allowed.
+    #[test]
+    fn acts() {
+        let may = |act: Act| in_term_3().act(&act, 3);
+        assert!(may(Act::Raise(3)) && !may(Act::Raise(2)));
+        assert!(may(Act::Vote(vote(3, 3, (3, 2)))) && !may(Act::Vote(vote(4, 3, (3, 2)))));
+        assert!(may(Act::Take(1, vec![record(3)])) && !may(Act::Take(0, vec![record(3)])));
+        assert!(may(Act::Add(record(3))) && !may(Act::Add(record(1))));
+        assert!(may(Act::Stamp) && !Replica::new(1).act(&Act::Stamp, 3));
+        assert!(may(Act::Receipt(2)) && !may(Act::Receipt(1)));
+        assert!(may(Act::Decline) && may(Act::Restart));
     }
 }

@@ -1,0 +1,70 @@
+-- What the two claims of demand 3 give, drawn from the claims alone: a claim that said less would not give it.
+-- Assumes nothing.
+use mathlib.Core.Path.{_≡_, refl, sym, subst, _∙_}
+use mathlib.Core.Bool.{true, false, true≢false}
+use mathlib.Core.List.{List, [], _∷_, _++_, flatMap, List·Memᴰ, List·Memᴰ·head}
+use mathlib.Core.Logic.{⊎-elim}
+use Prim.Native.Nat.{ℕ, suc, _≤_, _<_}
+use borrow.Author.Tests.{eq-eqb}
+use Rattle.words.proofs.Same.{true-same}
+use Rattle.refusal.proofs.Laws.{look}
+use Rattle.lms.specs.Check.{good}
+use Rattle.roster.specs.Roster.{boards, keyOf}
+use Rattle.roster.specs.Masks.{signer}
+use Rattle.chain.specs.Log.{Record, chainStrings, chainFrom}
+use Rattle.chain.specs.Claim.{Ballot, voted, say}
+use Rattle.chain.specs.Apart.{Apart}
+use Rattle.replica.specs.Replica.{raise, vote, first, after, signs, keeps, signed, held}
+use Rattle.replica.specs.Charges.{sameRecord}
+use Rattle.submission.specs.View.{Slot}
+use Rattle.submission.specs.Validate.{formOf, viewOf, slotsOf}
+use Rattle.forensics.specs.Findings.{differAt, fork}
+use Rattle.report.specs.Report.{namedIn}
+use Rattle.report.specs.Claims.{Differ, Naming, OwnSignatures, strings, Fairness}
+
+-- records that are not the same differ
+itself : (r : Record) → sameRecord r r ≡ true
+unfolding sameRecord
+itself r = rw (eq-eqb (r .term) (r .term) refl) (true-same (r .digest))
+
+apart-records : (r s : Record) → sameRecord r s ≡ false → r ≡ s → ⊥
+apart-records r s e d = true≢false (sym (subst (λ (x : Record). sameRecord r x ≡ true) d (itself r)) ∙ e)
+
+-- a fork index is a difference
+differs : (i : ℕ) (l m : List Record) → (differAt i l m ≡ 0 → ⊥) → Differ l m
+unfolding differAt
+differs i [] m e = absurd (e refl)
+differs i (r ∷ l) [] e = absurd (e refl)
+differs i (r ∷ l) (s ∷ m) e =
+    ⊎-elim
+    (λ (h : sameRecord r s ≡ true).
+    let d = differs (suc i) l m (λ z. e (rw h z)) in
+    record { index = suc (d .index); one = d .one; other = d .other; in-one = d .in-one; in-other = d .in-other; differ = d .differ })
+    (λ (h : sameRecord r s ≡ false).
+    record { index = 0; one = r; other = s; in-one = refl; in-other = refl; differ = apart-records r s h })
+    (look (sameRecord r s))
+
+module _ (roster s₁ s₂ : List ℕ) (number : ℕ) (report : List ℕ) where
+  -- naming: wherever the definitions have a fork, somebody is named
+  fork-named : Naming roster s₁ s₂ number report → number ≡ 0 → (fork (viewOf roster s₁) (viewOf roster s₂) ≡ 0 → ⊥) → namedIn report ≡ 0 → ⊥
+  unfolding Naming fork
+  fork-named claim zero-number forked nobody = claim zero-number (differs 1 _ _ forked) nobody
+
+  -- fairness: a board under whose key no signature of the two is good is not named, if no two chain strings of the two have one digest
+  silent : Fairness roster s₁ s₂ number report → (number ≡ 1 → ⊥) → (k : ℕ) → 0 < k → k ≤ boards roster
+      → ((x : Slot) → List·Memᴰ x (slotsOf roster s₁ ++ slotsOf roster s₂) → good (keyOf roster k) (say (formOf roster) (x .claim)) (x .signature) ≡ true → ⊥)
+      → (let C = chainStrings (formOf roster) (viewOf roster s₁ .log) ++ chainStrings (formOf roster) (viewOf roster s₂ .log) in Apart C C)
+      → signer (namedIn report) k ≡ false
+  unfolding Fairness OwnSignatures strings keeps held first chainStrings chainFrom flatMap
+  silent claim other k low high bad apart = claim other k low high [] refl (λ x m g. absurd (bad x m g)) apart
+
+  -- and one that has raised its term and cast one vote, if each good signature under its key stands on that vote's bytes
+  voter : Fairness roster s₁ s₂ number report → (number ≡ 1 → ⊥) → (k : ℕ) → 0 < k → k ≤ boards roster
+      → (b : Ballot) → keeps (formOf roster) (boards roster) first (raise 0 ∷ vote b ∷ []) ≡ true
+      → ((x : Slot) → List·Memᴰ x (slotsOf roster s₁ ++ slotsOf roster s₂) → good (keyOf roster k) (say (formOf roster) (x .claim)) (x .signature) ≡ true
+      → say (formOf roster) (x .claim) ≡ say (formOf roster) (voted b))
+      → (let C = chainStrings (formOf roster) (viewOf roster s₁ .log) ++ chainStrings (formOf roster) (viewOf roster s₂ .log) in Apart C C)
+      → signer (namedIn report) k ≡ false
+  unfolding Fairness OwnSignatures strings signed signs after held first chainStrings chainFrom flatMap
+  voter claim other k low high b keep own apart =
+      claim other k low high (raise 0 ∷ vote b ∷ []) keep (λ x m g. List·Memᴰ·head (own x m g)) apart

@@ -1,0 +1,264 @@
+//! What the file holds: enough examples of each kind, each clause of the board rules broken alone,
+//! and a few examples spelled out from document 01.
+
+use super::*;
+use std::mem::discriminant;
+
+/// The clauses of document 01's board rules that speak of the example's kind of act, and whether
+/// the act breaks them: said anew, in other words than the replica's.
+fn clauses(example: &Example) -> Vec<(&'static str, bool)> {
+    let Example { n, state, act, .. } = example;
+    let own = state.term;
+    let elsewhere = |index: usize| state.log[index - 1].term != own;
+    match act {
+        Act::Raise(term) => vec![("the term falls", *term < own)],
+        Act::Vote(vote) => {
+            let other = |last: Vote| last.term == vote.term && last.candidate != vote.candidate;
+            vec![
+                ("a vote in a lower term", vote.term < own),
+                ("a candidate below 1", vote.candidate < 1),
+                ("a candidate above n", vote.candidate as usize > *n),
+                ("two candidates in one term", state.last_vote.is_some_and(other)),
+                ("a staler log", (vote.last_term, vote.last_index) < end(&state.log)),
+            ]
+        }
+        Act::Take(keep, run) => {
+            let log = [&state.log[..(*keep).min(state.log.len())], run].concat();
+            vec![
+                ("more kept than there are", *keep > state.log.len()),
+                ("no record taken", run.is_empty()),
+                ("a term of 0", log.iter().any(|record| record.term == 0)),
+                ("terms that fall", log.windows(2).any(|two| two[1].term < two[0].term)),
+                ("an end in another term", end(&log).0 != own),
+                ("a staler end", end(&log) < end(&state.log)),
+                ("stamped in this term", state.last_stamp == Some(own)),
+            ]
+        }
+        Act::Add(record) => vec![
+            ("a record of another term added", record.term != own),
+            ("a record of term 0 added", record.term == 0),
+        ],
+        Act::Stamp => {
+            let last = state.log.len();
+            vec![
+                ("a stamp of no record", last == 0),
+                ("a stamp in another term", last > 0 && elsewhere(last)),
+            ]
+        }
+        Act::Receipt(index) => {
+            let there = (1..=state.log.len()).contains(index);
+            vec![
+                ("a receipt for record 0", *index == 0),
+                ("a receipt past the end", *index > state.log.len()),
+                ("a receipt in another term", there && elsewhere(*index)),
+            ]
+        }
+        Act::Decline | Act::Restart => vec![],
+    }
+}
+
+/// The term and the index of a log's last record.
+fn end(log: &[Record]) -> (u32, u32) {
+    (log.last().map_or(0, |record| record.term), log.len() as u32)
+}
+
+fn broken(example: &Example) -> Vec<&'static str> {
+    clauses(example).into_iter().filter(|(_, breaks)| *breaks).map(|(clause, _)| clause).collect()
+}
+
+fn all() -> Vec<Example> {
+    groups().into_iter().flat_map(|group| group.examples).collect()
+}
+
+/// An act is allowed if it breaks no clause, and then only what document 01 says is changed.
+#[test]
+fn judged() {
+    for example in all() {
+        assert_eq!(example.after.is_some(), broken(&example).is_empty(), "{example:?}");
+        let mut replica = example.state.replica();
+        if !replica.act(&example.act, example.n) {
+            assert_eq!(State::of(&replica), example.state, "changed by a refused act");
+            continue;
+        }
+        let mut changed = example.state.clone();
+        match &example.act {
+            Act::Raise(term) => changed.term = *term,
+            Act::Vote(vote) => (changed.term, changed.last_vote) = (vote.term, Some(*vote)),
+            Act::Take(keep, run) => changed.log = [&changed.log[..*keep], run].concat(),
+            Act::Add(record) => changed.log.push(*record),
+            Act::Stamp => changed.last_stamp = Some(changed.term),
+            Act::Receipt(_) | Act::Decline | Act::Restart => (),
+        }
+        assert_eq!(example.after, Some(changed), "{example:?}");
+    }
+}
+
+/// Each clause is broken alone by some example, beside which there is an allowed one: another act
+/// of its kind on the same state, or the same act on another. A record of term 0 has neither, so
+/// one of term 1 in term 1 stands in.
+#[test]
+fn clauses_broken_alone() {
+    let examples = all();
+    let beside = |one: &Example, other: &Example| {
+        let same_kind = discriminant(&one.act) == discriminant(&other.act);
+        let same_state = (one.n, &one.state) == (other.n, &other.state);
+        let first_two = (one.state.term, other.state.term) == (0, 1);
+        let first_adds = first_two && one.n == other.n && matches!(one.act, Act::Add(_));
+        one.act == other.act || (same_kind && (same_state || first_adds))
+    };
+    let mut names: Vec<&str> = Vec::new();
+    for (clause, _) in examples.iter().flat_map(clauses) {
+        if !names.contains(&clause) {
+            names.push(clause);
+        }
+    }
+    assert_eq!(names.len(), 20);
+    for clause in names {
+        let mut alone = examples.iter().filter(|example| broken(example) == [clause]);
+        let found = alone.any(|example| {
+            examples.iter().any(|other| other.after.is_some() && beside(example, other))
+        });
+        assert!(found, "{clause}");
+    }
+}
+
+/// How many there are of each kind, and of those that are allowed; and no two are the same.
+#[test]
+fn counts() {
+    let mut examples = all();
+    let allowed = examples.iter().filter(|example| example.after.is_some()).count();
+    println!("{allowed} of {} allowed", examples.len());
+    for group in groups() {
+        let acts = &group.examples;
+        let allowed = acts.iter().filter(|example| example.after.is_some()).count();
+        println!("{}: {allowed} allowed, {} refused", group.name, acts.len() - allowed);
+        if group.name == "others" {
+            let count = |act| acts.iter().filter(|example| example.act == act).count();
+            assert!(count(Act::Decline) >= 3 && count(Act::Restart) >= 3);
+        } else {
+            assert!(acts.len() >= 15 && allowed >= 7 && acts.len() - allowed >= 7);
+            assert!(acts
+                .iter()
+                .all(|example| discriminant(&example.act) == discriminant(&acts[0].act)));
+        }
+    }
+    assert!((200..=240).contains(&examples.len()));
+    assert!((90..=110).contains(&(200 * allowed / examples.len())));
+    while let Some(example) = examples.pop() {
+        assert!(!examples.contains(&example), "twice: {example:?}");
+    }
+}
+
+/// Every number of replicas, every length of a log up to 6, low terms and the two highest; votes
+/// and stamps of this term, of an earlier one, and none.
+#[test]
+fn states() {
+    let examples = all();
+    let some = |holds: &dyn Fn(&Example) -> bool| examples.iter().any(holds);
+    assert!((3..=9).all(|n| some(&|example| example.n == n)));
+    assert!((0..=6).all(|length| some(&|example| example.state.log.len() == length)));
+    let mut terms = (0..=6).chain([u32::MAX - 1, u32::MAX]);
+    assert!(terms.all(|term| some(&|example| example.state.term == term)));
+    for act in examples.iter().map(|example| discriminant(&example.act)) {
+        let some = |holds: &dyn Fn(&State) -> bool| {
+            some(&|example| discriminant(&example.act) == act && holds(&example.state))
+        };
+        let vote_term = |state: &State| state.last_vote.map(|vote| vote.term);
+        assert!(some(&|state| vote_term(state).is_none()));
+        assert!(some(&|state| vote_term(state).is_some_and(|term| term <= state.term)));
+        assert!(some(&|state| state.last_stamp.is_none()));
+        assert!(some(&|state| state.last_stamp == Some(state.term)));
+        assert!(some(&|state| state.last_stamp.is_some_and(|term| term < state.term)));
+    }
+}
+
+fn record(term: u32, byte: u8) -> Record {
+    let mut payload = [0; 32];
+    payload[0] = byte;
+    Record { term, payload }
+}
+
+fn vote(candidate: u16, term: u32, last_term: u32, last_index: u32) -> Vote {
+    Vote { candidate, term, last_term, last_index, last_pointer: [0; 32] }
+}
+
+/// In term 4 of 3 replicas: a vote for 2 and no stamp in it, and a log that ends at (4, 2).
+fn in_term_4() -> State {
+    State {
+        term: 4,
+        last_vote: Some(vote(2, 4, 3, 1)),
+        last_stamp: Some(3),
+        log: vec![record(3, 0), record(4, 7)],
+    }
+}
+
+/// By hand from document 01: what is allowed in term 4, and what is not.
+#[test]
+fn by_hand() {
+    let after = |act| Example::new(3, in_term_4(), act).after;
+    let state = in_term_4;
+    assert_eq!(after(Act::Raise(3)), None);
+    assert_eq!(after(Act::Raise(5)), Some(State { term: 5, ..state() }));
+    assert_eq!(after(Act::Vote(vote(3, 4, 4, 2))), None);
+    assert_eq!(after(Act::Vote(vote(3, 5, 4, 1))), None);
+    let next = vote(3, 5, 4, 2);
+    assert_eq!(after(Act::Vote(next)), Some(State { term: 5, last_vote: Some(next), ..state() }));
+    assert_eq!(after(Act::Take(0, vec![record(4, 9)])), None);
+    let run = vec![record(4, 9), record(4, 8)];
+    assert_eq!(after(Act::Take(0, run.clone())), Some(State { log: run, ..state() }));
+    assert_eq!(after(Act::Add(record(3, 1))), None);
+    let log = vec![record(3, 0), record(4, 7), record(4, 1)];
+    assert_eq!(after(Act::Add(record(4, 1))), Some(State { log, ..state() }));
+    assert_eq!(after(Act::Stamp), Some(State { last_stamp: Some(4), ..state() }));
+    assert_eq!(after(Act::Receipt(1)), None);
+    assert_eq!(after(Act::Receipt(2)), Some(state()));
+    assert_eq!([Act::Decline, Act::Restart].map(after), [Some(state()), Some(state())]);
+}
+
+/// Two examples, one of them refused, and one whose state takes two lines.
+#[test]
+fn written() {
+    let mut group = Group::new("raises", "raises");
+    group.on(3, &in_term_4(), [Act::Raise(5)]);
+    group.on(3, &State::default(), [Act::Stamp]);
+    let many = State { log: vec![record(u32::MAX, 255); 4], ..in_term_4() };
+    group.on(3, &many, [Act::Take(4, vec![record(4, 0)])]);
+    let text = text::file(&[group]);
+    let expected = "
+-- raises
+unfoldable pub raises : List Case
+raises =
+    given 3 (state 4 (some (ballot 2 4 3 1 0)) (some 3) (of 3 0 ∷ of 4 7 ∷ []))
+    (raise 5)
+    (some (state 5 (some (ballot 2 4 3 1 0)) (some 3) (of 3 0 ∷ of 4 7 ∷ [])))
+    ∷ given 3 (state 0 none none [])
+    stamp
+    none
+    ∷ given 3 (state 4 (some (ballot 2 4 3 1 0)) (some 3)
+    (of 4294967295 255 ∷ of 4294967295 255 ∷ of 4294967295 255 ∷ of 4294967295 255 ∷ []))
+    (run 4 (of 4 0 ∷ []))
+    none
+    ∷ []
+
+-- all of them
+unfoldable pub cases : List Case
+cases = raises
+";
+    assert!(text.ends_with(expected), "{text}");
+}
+
+/// The whole file: the same twice, with every example, and no line too wide.
+#[test]
+fn whole_file() {
+    let text = file();
+    assert_eq!(text, file());
+    let refused = all().iter().filter(|example| example.after.is_none()).count();
+    assert_eq!(text.matches(" given ").count(), all().len());
+    assert_eq!(text.matches("    none\n").count(), refused);
+    for line in text.lines() {
+        assert!(line.chars().count() <= 110 && line.trim_end() == line, "{line}");
+    }
+    let all = "\n-- all of them\nunfoldable pub cases : List Case\n\
+               cases = raises ++ votes ++ runs ++ adds ++ stamps ++ receipts ++ others\n";
+    assert!(text.ends_with(all));
+}
