@@ -1,4 +1,4 @@
--- The board rules on some two hundred acts, as the separately written auditor's own rules have them.
+-- The board rules on some 370 acts, as the separately written auditor's own rules have them.
 -- Assumes nothing.
 use mathlib.Core.Path.{_≡_, refl}
 use mathlib.Core.Bool.{cond}

@@ -3,6 +3,7 @@
 
 mod drawn;
 mod families;
+mod lengths;
 mod text;
 
 use super::replica::{Act, Replica};
@@ -88,8 +89,8 @@ impl Group {
     }
 }
 
-/// All examples: the hand-made families, then for each but the last kind of act some that are
-/// drawn, as many refused as allowed.
+/// All examples: the hand-made families, then for each but the last kind of act some on logs of
+/// every length, and some that are drawn, as many refused as allowed.
 fn groups() -> Vec<Group> {
     let drawn: [(drawn::Kind, usize); 6] = [
         (drawn::raise, 2),
@@ -101,6 +102,7 @@ fn groups() -> Vec<Group> {
     ];
     let mut random = Random::new(23);
     let mut groups = families::groups();
+    lengths::add_to(&mut groups);
     for (group, (kind, count)) in groups.iter_mut().zip(drawn) {
         drawn::add_to(group, kind, count, &mut random);
     }

@@ -290,16 +290,16 @@ fn run(keep: usize, terms: &[u32]) -> Act {
     Act::Take(keep, records(200, terms))
 }
 
-fn state(term: u32, last_vote: Option<Vote>, last_stamp: Option<u32>, terms: &[u32]) -> State {
+pub fn state(term: u32, last_vote: Option<Vote>, last_stamp: Option<u32>, terms: &[u32]) -> State {
     State { term, last_vote, last_stamp, log: records(0, terms) }
 }
 
 /// The term and the index of the last record.
-fn end(state: &State) -> (u32, u32) {
+pub fn end(state: &State) -> (u32, u32) {
     state.replica().end()
 }
 
-fn ballot(candidate: u16, term: u32, (last_term, last_index): (u32, u32)) -> Vote {
+pub fn ballot(candidate: u16, term: u32, (last_term, last_index): (u32, u32)) -> Vote {
     Vote { candidate, term, last_term, last_index, last_pointer: digest(last_index as u8) }
 }
 
@@ -308,7 +308,7 @@ fn records(first_byte: u8, terms: &[u32]) -> Vec<Record> {
     terms.iter().zip(first_byte..).map(|(term, byte)| record(*term, byte)).collect()
 }
 
-fn record(term: u32, byte: u8) -> Record {
+pub fn record(term: u32, byte: u8) -> Record {
     Record { term, payload: digest(byte) }
 }
 

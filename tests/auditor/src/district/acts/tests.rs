@@ -142,8 +142,8 @@ fn counts() {
                 .all(|example| discriminant(&example.act) == discriminant(&acts[0].act)));
         }
     }
-    assert!((200..=240).contains(&examples.len()));
-    assert!((90..=110).contains(&(200 * allowed / examples.len())));
+    assert!((300..=400).contains(&examples.len()));
+    assert!((100..=130).contains(&(200 * allowed / examples.len())));
     while let Some(example) = examples.pop() {
         assert!(!examples.contains(&example), "twice: {example:?}");
     }
@@ -169,6 +169,32 @@ fn states() {
         assert!(some(&|state| state.last_stamp.is_none()));
         assert!(some(&|state| state.last_stamp == Some(state.term)));
         assert!(some(&|state| state.last_stamp.is_some_and(|term| term < state.term)));
+    }
+}
+
+/// An act of every kind is allowed on a log of every length up to 6, but for those that need a
+/// record on the empty log; and a receipt for every record of a log.
+#[test]
+fn lengths() {
+    let examples = all();
+    let allowed = |length: usize, act: &Act| {
+        examples.iter().any(|example| {
+            let same_kind = discriminant(&example.act) == discriminant(act);
+            example.state.log.len() == length && same_kind && example.after.is_some()
+        })
+    };
+    for length in 0..=6 {
+        let vote = Act::Vote(families::ballot(1, 1, (0, 0)));
+        let any = [Act::Raise(0), vote, Act::Take(0, vec![]), Act::Add(record(1, 0))];
+        assert!(any.iter().all(|act| allowed(length, act)), "{length}");
+        let with_record = [Act::Stamp, Act::Receipt(1)];
+        assert!(with_record.iter().all(|act| allowed(length, act) == (length > 0)), "{length}");
+        for index in 1..=length {
+            assert!(examples.iter().any(|example| {
+                let whole = example.state.log.len() == length;
+                whole && example.act == Act::Receipt(index) && example.after.is_some()
+            }));
+        }
     }
 }
 

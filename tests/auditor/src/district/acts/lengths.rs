@@ -1,0 +1,46 @@
+//! Acts of every kind on logs of every length up to 6: a log all of the replica's own term, and one
+//! whose last record alone is. The last vote and the last stamp change from length to length.
+
+use super::families::{ballot, end, record, state};
+use super::{Act, Group, State};
+
+const TERM: u32 = 5;
+
+/// Adds to the groups, in the order of the file.
+pub fn add_to(groups: &mut [Group]) {
+    for length in 0..=6 {
+        for (turn, older) in [0, length.max(1) - 1].into_iter().enumerate() {
+            let state = state_of(length, older, turn);
+            for (group, acts) in groups.iter_mut().zip(acts(&state, older)) {
+                group.on(3 + length, &state, acts);
+            }
+        }
+    }
+}
+
+/// A log of so many records, the older ones of a term before its own.
+fn state_of(length: usize, older: usize, turn: usize) -> State {
+    let terms: Vec<u32> = (0..length).map(|i| if i < older { 2 } else { TERM }).collect();
+    let vote = [None, Some(TERM), Some(TERM - 1)][(length + 2 * turn) % 3];
+    let stamp = [None, Some(TERM), Some(TERM - 1)][(length + turn) % 3];
+    state(TERM, vote.map(|term| ballot(2, term, (2, 1))), stamp, &terms)
+}
+
+/// For each group, in the order of the file, what a replica may do on such a state, and receipts
+/// for every record and past the last.
+fn acts(state: &State, older: usize) -> [Vec<Act>; 6] {
+    let length = state.log.len();
+    let keep = length.max(1) - 1;
+    let first_receipt = if older == 0 { 1 } else { length };
+    [
+        vec![Act::Raise(TERM + 1 + length as u32)],
+        vec![Act::Vote(ballot(2, TERM, end(state))), Act::Vote(ballot(3, TERM + 1, end(state)))],
+        vec![
+            Act::Take(length, vec![record(TERM, 9)]),
+            Act::Take(keep, vec![record(TERM, 8), record(TERM, 9)]),
+        ],
+        vec![Act::Add(record(TERM, 9))],
+        vec![Act::Stamp],
+        (first_receipt..=length + 1).map(Act::Receipt).collect(),
+    ]
+}
