@@ -5,7 +5,7 @@ ghost use mathlib.Core.Path.{_≡_};
 ghost use lib.ListN.{take, replicate};
 ghost use Rattle.io.specs.Counts.{Counts};
 ghost use Rattle.report.specs.Report.{reportAfter};
-ghost use Rattle.lines.specs.Lines.{lines};
+ghost use Rattle.text_report.specs.Lines.{lines};
 
 // Puts the lines of the report of three inputs at the start of `out`, and gives their length.
 fn report_lines(roster: &[u8], first: &[u8], second: &[u8], out: &mut [u8; 512]) -> usize
@@ -13,8 +13,8 @@ fn report_lines(roster: &[u8], first: &[u8], second: &[u8], out: &mut [u8; 512])
     ensures text { λ r. ⌜ take r (now (out .exit)) ≡ lines (reportAfter (now (roster .entry)) (now (first .entry)) (now (second .entry)) (replicate 53 0)) ⌝ }
 {
     let mut report = [0u8; 53];
-    auditing::audit(roster, first, second, &mut report);
-    lines::text(report, out)
+    audit_pair::audit(roster, first, second, &mut report);
+    text_report::text(report, out)
 }
 
 // Prints the lines of the report of three inputs.
@@ -28,8 +28,8 @@ fn main() {
     let mut roster = [0u8; 1024];
     let mut first = [0u8; 28672];
     let mut second = [0u8; 28672];
-    let r = files::load(b"roster", &mut roster);
-    let a = files::load(b"first", &mut first);
-    let b = files::load(b"second", &mut second);
+    let r = program_files::load(b"roster", &mut roster);
+    let a = program_files::load(b"first", &mut first);
+    let b = program_files::load(b"second", &mut second);
     print(&roster[..r], &first[..a], &second[..b]);
 }

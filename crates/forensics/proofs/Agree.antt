@@ -13,7 +13,7 @@ use lib.ListN.{getElem?, take}
 use Rattle.words.specs.BigEndian.{same}
 use Rattle.words.proofs.Same.{same-true, true-same, same-test}
 use Rattle.refusal.proofs.Laws.{look, cond-true}
-use Rattle.chain.specs.Log.{Record}
+use Rattle.log_chain.specs.Log.{Record}
 use Rattle.replica.specs.Charges.{agree, sameRecord}
 
 -- ---- either way round

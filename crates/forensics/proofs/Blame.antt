@@ -16,8 +16,8 @@ use lib.Seq.{length-take-le}
 use Rattle.refusal.proofs.Laws.{look}
 use Rattle.roster.specs.Masks.{signer}
 use Rattle.roster.proofs.Quorums.{quorums-share}
-use Rattle.chain.specs.Log.{Form, Record, lastTerm}
-use Rattle.chain.specs.Claim.{Ballot, Claim, stamped, received, voted}
+use Rattle.log_chain.specs.Log.{Form, Record, lastTerm}
+use Rattle.log_chain.specs.Claim.{Ballot, Claim, stamped, received, voted}
 use Rattle.replica.specs.Ends.{staler}
 use Rattle.replica.specs.Charges.{Charge, charge, clash, agree, twoVotes, twoStamps, staleVote}
 use Rattle.replica.proofs.Order.{fresh}

@@ -8,7 +8,7 @@ use Prim.Native.Nat.{ℕ}
 use lib.ListN.{replicate}
 use Rattle.words.specs.BigEndian.{same}
 use Rattle.roster.specs.Masks.{boardsFrom, boardsOf}
-use Rattle.chain.specs.Log.{Record, termFrom, lastTerm}
+use Rattle.log_chain.specs.Log.{Record, termFrom, lastTerm}
 use Rattle.replica.specs.Ends.{staler}
 use Rattle.replica.specs.Charges.{Charge, charge, clash, twoVotes, twoStamps, staleVote, agree, sameRecord}
 use Rattle.submission.specs.View.{run, runsFrom, runs, runsAfter, Certificate, View, leadsOf, leads, committedBy, committed, slot, certified, votesOf, stampOf, receiptsOf, slots}

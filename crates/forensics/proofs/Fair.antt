@@ -9,11 +9,11 @@ use Prim.Native.Nat.{ℕ, _^_, _<_}
 use borrow.Author.Tests.{eqb-true}
 use lib.Dec.{eqb}
 use Rattle.words.proofs.Members.{joined-empty, mem-cond}
-use Rattle.chain.specs.Log.{Form, chainStrings}
-use Rattle.chain.specs.Claim.{Claim, say}
-use Rattle.chain.specs.Apart.{Apart}
-use Rattle.chain.proofs.Fits.{ClaimFits}
-use Rattle.chain.proofs.Said.{stringsOf, say-injective}
+use Rattle.log_chain.specs.Log.{Form, chainStrings}
+use Rattle.log_chain.specs.Claim.{Claim, say}
+use Rattle.log_chain.specs.Apart.{Apart}
+use Rattle.log_chain.proofs.Fits.{ClaimFits}
+use Rattle.log_chain.proofs.Said.{stringsOf, say-injective}
 use Rattle.replica.specs.Replica.{Act, first, keeps, signed, held}
 use Rattle.replica.specs.Charges.{NeverCharged, clash}
 use Rattle.replica.proofs.Honest.{never-charged}

@@ -5,7 +5,7 @@ use mathlib.Core.Bool.{false}
 use Prim.Native.Nat.{ℕ, _≤_, _<_}
 use native.Mathlib.Nat.{le-trans}
 use lib.Dec.{lit≤}
-use Rattle.chain.specs.Log.{Form}
+use Rattle.log_chain.specs.Log.{Form}
 use Rattle.replica.specs.Charges.{agree}
 use Rattle.submission.specs.View.{View, committed, slots}
 use Rattle.submission.proofs.Accepted.{Sound}

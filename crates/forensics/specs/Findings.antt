@@ -4,8 +4,8 @@ use mathlib.Core.List.{List, [], _∷_, flatMap}
 use mathlib.Core.Option.{Option, some, none}
 use Prim.Native.Nat.{ℕ, zero, suc, _+_, _*_}
 use lib.Dec.{eqb}
-use Rattle.chain.specs.Log.{Record}
-use Rattle.chain.specs.Claim.{Claim}
+use Rattle.log_chain.specs.Log.{Record}
+use Rattle.log_chain.specs.Claim.{Claim}
 use Rattle.replica.specs.Ends.{staler}
 use Rattle.replica.specs.Charges.{Charge, clash, sameRecord}
 use Rattle.submission.specs.View.{View, committed, Slot, slots}

@@ -13,7 +13,7 @@ pub extern "C" fn hirelog_sha256(message: &[u8], digest: &mut [u8; 32]) -> u32
     ensures number { λ r. ⌜ r ≡ digestNumber (now (message .entry)) ⌝ }
     ensures bytes { λ _. ⌜ now (digest .exit) ≡ digestAfter (now (message .entry)) (now (digest .entry)) ⌝ }
 {
-    digest::digest(message, digest)
+    sha256_service::digest(message, digest)
 }
 
 // The LMS signature check (document 01, "Digest and signature"; RFC 8554): 0 for good, 15 for bad, and 16, before
@@ -39,5 +39,5 @@ pub extern "C" fn hirelog_audit(
     ensures naming { λ r. ⌜ Naming (now (roster .entry)) (now (first .entry)) (now (second .entry)) r (now (report .exit)) ⌝ }
     ensures fairness { λ r. ⌜ Fairness (now (roster .entry)) (now (first .entry)) (now (second .entry)) r (now (report .exit)) ⌝ }
 {
-    auditing::audit(roster, first, second, report)
+    audit_pair::audit(roster, first, second, report)
 }

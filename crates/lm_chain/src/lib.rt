@@ -5,11 +5,11 @@ ghost use Prim.Native.Nat.{ℕ, _+_, _^_, _<_};
 ghost use lib.ListN.{take};
 ghost use Rattle.sha256.specs.Sha256.{rounds, initial, bytesOf};
 ghost use Rattle.lm_hash.specs.Identifier.{identifier};
-ghost use Rattle.lanes.specs.Lane.{Lane, lane, state};
+ghost use Rattle.sha256_lanes.specs.Lane.{Lane, lane, state};
 ghost use Rattle.lm_chain_blocks.specs.Block.{stepBlock};
 ghost use Rattle.lm_chain.specs.Chain.{stepped, chain};
-use lane_words::Lanes;
-use lanes::Four;
+use sha256_lane_words::Lanes;
+use sha256_lanes::Four;
 use lm_hash::Leaf;
 use sha256::State;
 use sha256_tables::K;
@@ -52,13 +52,13 @@ pub fn run(leaf: Leaf, n: u32, i: Lanes, j: Lanes, t: Four) -> Four
         ≡ chain (identifier leaf) (leaf .q) (lane l i) n (lane l j) (bytesOf (state l t))) ⌝ }
 {
     let u = shared(leaf);
-    let k = lanes::table();
+    let k = sha256_lanes::table();
     let mut w = [0u32; 256];
     lm_chain_blocks::first_blocks(leaf, i, j, t, &mut w);
     let mut s = t;
     let mut m: u32 = 0;
     while m < n {
-        s = lanes::absorb(State::new(), u, &k, &mut w);
+        s = sha256_lanes::absorb(State::new(), u, &k, &mut w);
         m += 1;
         lm_chain_blocks::next_blocks(i, later(j, m), s, &mut w);
     }

@@ -14,7 +14,7 @@ use Rattle.sha256.specs.declared.State.{State}
 use Rattle.sha256.specs.Sha256.{parse, padding, zeros, wordsOf, bytesOf}
 use Rattle.lm_hash.specs.declared.Leaf.{Leaf}
 use Rattle.lm_hash.specs.Identifier.{identifier}
-use Rattle.lanes.specs.Lane.{changed}
+use Rattle.sha256_lanes.specs.Lane.{changed}
 use Rattle.lm_chain_blocks.specs.Block.{stepBlock, firstWord, acrossWord, lastWord}
 
 -- the bytes of a number and one more

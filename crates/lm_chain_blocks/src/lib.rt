@@ -7,10 +7,10 @@
 ghost use mathlib.Core.Path.{_≡_};
 ghost use Prim.Native.Nat.{ℕ, _<_};
 ghost use lib.ListN.{length, getD};
-ghost use Rattle.lanes.specs.Lane.{Lane, lane, state, wordIn, changed};
+ghost use Rattle.sha256_lanes.specs.Lane.{Lane, lane, state, wordIn, changed};
 ghost use Rattle.lm_chain_blocks.specs.Block.{stepBlock, firstWord, acrossWord, lastWord};
-use lane_words::Lanes;
-use lanes::Four;
+use sha256_lane_words::Lanes;
+use sha256_lanes::Four;
 use lm_hash::Leaf;
 use sha256::State;
 
@@ -104,9 +104,9 @@ fn put_first(i: Lanes, j: Lanes, a: Lanes, b: Lanes, c: Lanes, w: &mut [u32])
         ≡ changed 7 (acrossWord (lane l b) (lane l c)) (changed 6 (acrossWord (lane l a) (lane l b))
         (changed 5 (firstWord (lane l i) (lane l j) (lane l a)) (wordIn l (now (w .entry))))) k) ⌝ }
 {
-    lane_words::put(w, 5, firsts(i, j, a));
-    lane_words::put(w, 6, joined_lanes(a, b));
-    lane_words::put(w, 7, joined_lanes(b, c));
+    sha256_lane_words::put(w, 5, firsts(i, j, a));
+    sha256_lane_words::put(w, 6, joined_lanes(a, b));
+    sha256_lane_words::put(w, 7, joined_lanes(b, c));
 }
 
 // Words 8 to 10.
@@ -116,9 +116,9 @@ fn put_middle(c: Lanes, d: Lanes, e: Lanes, f: Lanes, w: &mut [u32])
         ≡ changed 10 (acrossWord (lane l e) (lane l f)) (changed 9 (acrossWord (lane l d) (lane l e))
         (changed 8 (acrossWord (lane l c) (lane l d)) (wordIn l (now (w .entry))))) k) ⌝ }
 {
-    lane_words::put(w, 8, joined_lanes(c, d));
-    lane_words::put(w, 9, joined_lanes(d, e));
-    lane_words::put(w, 10, joined_lanes(e, f));
+    sha256_lane_words::put(w, 8, joined_lanes(c, d));
+    sha256_lane_words::put(w, 9, joined_lanes(d, e));
+    sha256_lane_words::put(w, 10, joined_lanes(e, f));
 }
 
 // Words 11 to 13.
@@ -128,9 +128,9 @@ fn put_last(f: Lanes, g: Lanes, h: Lanes, w: &mut [u32])
         ≡ changed 13 (lastWord (lane l h)) (changed 12 (acrossWord (lane l g) (lane l h))
         (changed 11 (acrossWord (lane l f) (lane l g)) (wordIn l (now (w .entry))))) k) ⌝ }
 {
-    lane_words::put(w, 11, joined_lanes(f, g));
-    lane_words::put(w, 12, joined_lanes(g, h));
-    lane_words::put(w, 13, lasts(h));
+    sha256_lane_words::put(w, 11, joined_lanes(f, g));
+    sha256_lane_words::put(w, 12, joined_lanes(g, h));
+    sha256_lane_words::put(w, 13, lasts(h));
 }
 
 // Makes the blocks of some step of each lane's chain i those of step j, on the value t: words 5 to 13 of `w`.
@@ -163,5 +163,5 @@ pub fn first_blocks(leaf: Leaf, i: Lanes, j: Lanes, t: Four, w: &mut [u32])
     let b1 = step_block(leaf, i.1, j.1, t.1);
     let b2 = step_block(leaf, i.2, j.2, t.2);
     let b3 = step_block(leaf, i.3, j.3, t.3);
-    lanes::load(b0, b1, b2, b3, w);
+    sha256_lanes::load(b0, b1, b2, b3, w);
 }

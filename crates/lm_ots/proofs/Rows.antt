@@ -11,7 +11,7 @@ use Rattle.words.proofs.Laws.{take-sets}
 use Rattle.lm_digits.specs.declared.Parameters.{Parameters}
 use Rattle.lm_digits.specs.Listed.{Listed}
 use Rattle.lm_ots.specs.Candidate.{end, ends}
-use Rattle.lm_values.specs.Values.{valueAt}
+use Rattle.lm_chain_values.specs.Values.{valueAt}
 use Rattle.lm_digits.proofs.Widths.{width-le, pow-le, shifted-one}
 use Rattle.lm_digits.proofs.Figures.{known-few, known-width, known-follows, shift-lt, chain-digit}
 

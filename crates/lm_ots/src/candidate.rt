@@ -22,7 +22,7 @@ fn put_ends(leaf: Leaf, o: Parameters, s: &[u8], y: &[u8], out: &mut [u8])
     let v = walk::walk(leaf, o, s, y);
     let mut i = 0;
     while i < chains {
-        lm_hash::put_value(out, 32 * i, lm_values::value_at(&v, i));
+        lm_hash::put_value(out, 32 * i, lm_chain_values::value_at(&v, i));
         i += 1;
     }
 }

@@ -51,7 +51,7 @@ fn verify(o: Parameters, h: u32, key: &[u8], message: &[u8], signature: &[u8]) -
 pub fn check(key: &[u8], message: &[u8], signature: &[u8]) -> Answer
     ensures { λ r. ⌜ r ≡ rfc.answer (now (key .entry)) (now (message .entry)) (now (signature .entry)) ⌝ }
 {
-    if digest::MESSAGE_MAX < message.len() {
+    if sha256_service::MESSAGE_MAX < message.len() {
         return Answer::Long;
     }
     if key.len() != lm_format::KEY_SIZE {

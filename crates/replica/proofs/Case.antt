@@ -4,8 +4,8 @@ use mathlib.Core.List.{List, [], _∷_}
 use mathlib.Core.Option.{Option}
 use Prim.Native.Nat.{ℕ}
 use lib.ListN.{replicate}
-use Rattle.chain.specs.Log.{Record}
-use Rattle.chain.specs.Claim.{Ballot}
+use Rattle.log_chain.specs.Log.{Record}
+use Rattle.log_chain.specs.Claim.{Ballot}
 use Rattle.replica.specs.Replica.{State, Act}
 
 pub record Case : Type 0 where

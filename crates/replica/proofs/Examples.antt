@@ -9,8 +9,8 @@ use Prim.Native.Nat.{ℕ}
 use lib.ListN.{replicate}
 use Rattle.words.specs.BigEndian.{same}
 use Rattle.refusal.specs.Checks.{all}
-use Rattle.chain.specs.Log.{version1, Record, termFrom, lastTerm}
-use Rattle.chain.specs.Claim.{Ballot, stamped, received, voted}
+use Rattle.log_chain.specs.Log.{version1, Record, termFrom, lastTerm}
+use Rattle.log_chain.specs.Claim.{Ballot, stamped, received, voted}
 use Rattle.replica.specs.Ends.{rising, staler}
 use Rattle.replica.specs.Replica.{State, Act, raise, vote, run, add, stamp, receipt, decline, restart, fitsTerm, fitsIndex, fitsRecords, oneCandidate, noStamp, noStaler, rules, allowed, first, after, signs, keeps, signed, held}
 use Rattle.replica.specs.Charges.{twoVotes, twoStamps, staleVote, agree, sameRecord}

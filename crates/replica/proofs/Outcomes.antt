@@ -6,7 +6,7 @@ use mathlib.Core.List.{List, _++_, map}
 use mathlib.Core.Option.{Option, some, none}
 use lib.ListN.{replicate}
 use Rattle.refusal.specs.Checks.{all}
-use Rattle.chain.specs.Log.{version1, termFrom, lastTerm}
+use Rattle.log_chain.specs.Log.{version1, termFrom, lastTerm}
 use Rattle.replica.specs.Ends.{rising, staler}
 use Rattle.replica.specs.Replica.{State, fitsTerm, fitsIndex, fitsRecords, oneCandidate, noStamp, noStaler, rules, allowed, after}
 use Rattle.replica.proofs.Case.{Case, given, state, ballot, of}

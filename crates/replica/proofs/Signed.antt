@@ -12,11 +12,11 @@ use lib.Dec.{lit<}
 use lib.ListN.{length, take, length-append, length-take}
 use Rattle.words.proofs.Laws.{pow-256-pos}
 use Rattle.refusal.proofs.Laws.{cond-true, all-cons}
-use Rattle.chain.specs.Log.{Form, Record, chainStrings}
-use Rattle.chain.specs.Claim.{Ballot, Claim}
-use Rattle.chain.proofs.Said.{stringsOf}
-use Rattle.chain.proofs.Fits.{LogFits, empty, more, PlaceFits, BallotFits, ClaimFits}
-use Rattle.chain.proofs.Prefix.{strings-take, fits-append, fits-take}
+use Rattle.log_chain.specs.Log.{Form, Record, chainStrings}
+use Rattle.log_chain.specs.Claim.{Ballot, Claim}
+use Rattle.log_chain.proofs.Said.{stringsOf}
+use Rattle.log_chain.proofs.Fits.{LogFits, empty, more, PlaceFits, BallotFits, ClaimFits}
+use Rattle.log_chain.proofs.Prefix.{strings-take, fits-append, fits-take}
 use Rattle.replica.specs.Replica.{State, first, keeps, signed, held, Act, raise, vote, run, add, stamp, receipt, decline, restart, fitsTerm, fitsIndex, fitsRecords, rules, allowed, after, signs}
 
 -- ---- what the rules on fields say

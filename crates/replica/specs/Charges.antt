@@ -6,10 +6,10 @@ use Prim.Native.Nat.{ℕ}
 use lib.Dec.{ltb, eqb}
 use lib.ListN.{length}
 use Rattle.words.specs.BigEndian.{same}
-use Rattle.chain.specs.Log.{Form, Record}
+use Rattle.log_chain.specs.Log.{Form, Record}
 use Rattle.replica.specs.Ends.{staler}
 use Rattle.replica.specs.Replica.{Act, first, keeps, signed}
-use Rattle.chain.specs.Claim.{Ballot, Claim, stamped, received, voted}
+use Rattle.log_chain.specs.Claim.{Ballot, Claim, stamped, received, voted}
 
 pub record Charge : Type 0 where
   pub rule : ℕ

@@ -7,9 +7,9 @@ use Prim.Native.Nat.{ℕ, _+_, _^_}
 use lib.Dec.{leb, ltb, eqb}
 use lib.ListN.{length, take}
 use Rattle.refusal.specs.Checks.{all}
-use Rattle.chain.specs.Log.{Form, Record, lastTerm}
+use Rattle.log_chain.specs.Log.{Form, Record, lastTerm}
 use Rattle.replica.specs.Ends.{rising, staler}
-use Rattle.chain.specs.Claim.{Ballot, Claim, stamped, received, voted}
+use Rattle.log_chain.specs.Claim.{Ballot, Claim, stamped, received, voted}
 
 pub record State : Type 0 where
   pub term : ℕ

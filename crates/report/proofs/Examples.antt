@@ -10,7 +10,7 @@ use Rattle.refusal.specs.Checks.{all, every, check, refusal}
 use Rattle.lm_digits.specs.Parameters.{row}
 use Rattle.lm_format.specs.Format.{height, signatureLength, pathAt, oneTimeBytes}
 use Rattle.roster.specs.Roster.{cluster, boards, keyOf, treeType, oneTimeType, levels, signatureSize, everyBoard, sized, typed, single, rosterNumber}
-use Rattle.chain.specs.Log.{version1}
+use Rattle.log_chain.specs.Log.{version1}
 use Rattle.replica.specs.Ends.{rising}
 use Rattle.submission.specs.Trailer.{name, word, recordCount, leaderCount, distance, version}
 use Rattle.submission.specs.View.{runs, runsAfter, leads, leadsOf, committed, committedBy, slots, receiptsOf}

@@ -9,9 +9,9 @@ use Rattle.words.proofs.Bytes.{Bytes}
 use Rattle.refusal.proofs.Laws.{every-mem}
 use Rattle.lms.specs.Check.{good}
 use Rattle.roster.specs.Roster.{boards, keyOf}
-use Rattle.chain.specs.Log.{chainStrings}
-use Rattle.chain.specs.Claim.{say}
-use Rattle.chain.specs.Apart.{Apart}
+use Rattle.log_chain.specs.Log.{chainStrings}
+use Rattle.log_chain.specs.Claim.{say}
+use Rattle.log_chain.specs.Apart.{Apart}
 use Rattle.replica.specs.Replica.{Act, first, keeps, held}
 use Rattle.submission.specs.View.{Slot}
 use Rattle.submission.specs.Validate.{genuine, formOf, viewOf, slotsOf, validate}

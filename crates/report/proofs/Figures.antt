@@ -9,7 +9,7 @@ use Rattle.lm_format.specs.Format.{height, signatureLength, pathAt, oneTimeByte
 use Rattle.lms.specs.Figures.{Figure, figure, AllHold, signatureFigures}
 use Rattle.lms.proofs.Figures.{signature-figures}
 use Rattle.roster.specs.Roster.{cluster, boards, quorum, keyOf, treeType, oneTimeType, levels, signatureSize, everyBoard, sized, typed, single, rosterNumber}
-use Rattle.chain.specs.Log.{version1}
+use Rattle.log_chain.specs.Log.{version1}
 use Rattle.replica.specs.Ends.{rising, staler}
 use Rattle.replica.specs.Charges.{charge, clash, staleVote}
 use Rattle.submission.specs.Trailer.{name, word, recordCount, leaderCount, distance, version}

@@ -20,9 +20,9 @@ use Rattle.lm_digits.specs.Parameters.{row}
 use Rattle.lm_format.specs.Format.{height, signatureLength, pathAt, oneTimeBytes}
 use Rattle.roster.specs.Roster.{cluster, boards, keyOf, treeType, oneTimeType, levels, signatureSize, everyBoard, sized, typed, single, rosterNumber}
 use Rattle.roster.specs.Masks.{signer}
-use Rattle.chain.specs.Log.{version1, Record, chainString, chainFrom, chainStrings, termFrom, lastTerm}
-use Rattle.chain.specs.Claim.{Ballot}
-use Rattle.chain.specs.Apart.{Apart}
+use Rattle.log_chain.specs.Log.{version1, Record, chainString, chainFrom, chainStrings, termFrom, lastTerm}
+use Rattle.log_chain.specs.Claim.{Ballot}
+use Rattle.log_chain.specs.Apart.{Apart}
 use Rattle.replica.specs.Ends.{rising, staler}
 use Rattle.replica.specs.Replica.{Act, raise, vote, run, add, stamp, receipt, decline, restart, first, fitsTerm, fitsIndex, fitsRecords, oneCandidate, noStamp, noStaler, rules, allowed, after, keeps, held}
 use Rattle.submission.specs.Trailer.{name, word, recordCount, leaderCount, distance, version}

@@ -11,9 +11,9 @@ use Rattle.refusal.proofs.Laws.{look}
 use Rattle.lms.specs.Check.{good}
 use Rattle.roster.specs.Roster.{boards, keyOf}
 use Rattle.roster.specs.Masks.{signer}
-use Rattle.chain.specs.Log.{Record, chainStrings, chainFrom}
-use Rattle.chain.specs.Claim.{Ballot, voted, say}
-use Rattle.chain.specs.Apart.{Apart}
+use Rattle.log_chain.specs.Log.{Record, chainStrings, chainFrom}
+use Rattle.log_chain.specs.Claim.{Ballot, voted, say}
+use Rattle.log_chain.specs.Apart.{Apart}
 use Rattle.replica.specs.Replica.{raise, vote, first, after, signs, keeps, signed, held}
 use Rattle.replica.specs.Charges.{sameRecord}
 use Rattle.submission.specs.View.{Slot}

@@ -8,9 +8,9 @@ use lib.ListN.{getElem?}
 use Rattle.lms.specs.Check.{good}
 use Rattle.roster.specs.Roster.{boards, keyOf}
 use Rattle.roster.specs.Masks.{signer}
-use Rattle.chain.specs.Log.{Record, chainStrings}
-use Rattle.chain.specs.Claim.{say}
-use Rattle.chain.specs.Apart.{Apart}
+use Rattle.log_chain.specs.Log.{Record, chainStrings}
+use Rattle.log_chain.specs.Claim.{say}
+use Rattle.log_chain.specs.Apart.{Apart}
 use Rattle.replica.specs.Replica.{Act, first, keeps, signed, held}
 use Rattle.submission.specs.View.{Slot, committed}
 use Rattle.submission.specs.Validate.{formOf, viewOf, slotsOf}

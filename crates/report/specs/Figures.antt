@@ -6,8 +6,8 @@ use lib.ListN.{replicate, drop}
 use Rattle.words.specs.BigEndian.{be}
 use Rattle.lms.specs.Figures.{Figure, figure, signatureFigures}
 use Rattle.roster.specs.Roster.{nameSize, quorum, rosterNumber}
-use Rattle.chain.specs.Log.{Record}
-use Rattle.chain.specs.Claim.{Ballot, received, voted}
+use Rattle.log_chain.specs.Log.{Record}
+use Rattle.log_chain.specs.Claim.{Ballot, received, voted}
 use Rattle.replica.specs.Charges.{Charge, clash}
 use Rattle.submission.specs.Validate.{validate}
 use Rattle.forensics.specs.Findings.{lowest}

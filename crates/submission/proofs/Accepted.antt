@@ -9,7 +9,7 @@ use lib.ListN.{length}
 use Rattle.refusal.specs.Checks.{every}
 use Rattle.refusal.proofs.Laws.{accepted}
 use Rattle.roster.specs.Roster.{boards, signatureSize}
-use Rattle.chain.specs.Log.{Form}
+use Rattle.log_chain.specs.Log.{Form}
 use Rattle.submission.specs.View.{View, leads}
 use Rattle.submission.specs.Reading.{view, laidOut, certificates, certificateEnd, stampsAt}
 use Rattle.submission.specs.Validate.{sized, counted, quorate, masks, ordered, oneEach, leading, within, genuine, formOf, viewOf, slotsOf, validate}

@@ -13,8 +13,8 @@ use Rattle.refusal.specs.Checks.{all, every}
 use Rattle.lms.specs.Check.{good}
 use Rattle.roster.specs.Roster.{quorum, keyOf}
 use Rattle.roster.specs.Masks.{signer, boardsFrom, boardsOf}
-use Rattle.chain.specs.Log.{Form, version1, Record, pointer, pointerFrom, termFrom, lastTerm}
-use Rattle.chain.specs.Claim.{Ballot, stamped, received, voted}
+use Rattle.log_chain.specs.Log.{Form, version1, Record, pointer, pointerFrom, termFrom, lastTerm}
+use Rattle.log_chain.specs.Claim.{Ballot, stamped, received, voted}
 use Rattle.replica.specs.Ends.{rising}
 use Rattle.submission.specs.Trailer.{name, word, recordCount, leaderCount, distance, version}
 use Rattle.submission.specs.View.{run, runsFrom, runs, runsAfter, Certificate, Commit, View, leadsOf, leads, slot, certified, votesOf, stampOf, receiptsOf, slots}

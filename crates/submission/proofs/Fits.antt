@@ -21,11 +21,11 @@ use Rattle.refusal.specs.Checks.{every}
 use Rattle.refusal.proofs.Laws.{all-cons, every-mem}
 use Rattle.roster.specs.Roster.{boards, signatureSize}
 use Rattle.roster.specs.Masks.{boardsOf}
-use Rattle.chain.specs.Log.{Form, Record, pointer, chainStrings, lastTerm}
-use Rattle.chain.specs.Claim.{Claim, stamped, received, voted}
-use Rattle.chain.proofs.Fits.{LogFits, empty, more, PlaceFits, BallotFits, ClaimFits}
-use Rattle.chain.proofs.Prefix.{strings-take, fits-take, last-fits}
-use Rattle.chain.proofs.Said.{stringsOf, pointer-length}
+use Rattle.log_chain.specs.Log.{Form, Record, pointer, chainStrings, lastTerm}
+use Rattle.log_chain.specs.Claim.{Claim, stamped, received, voted}
+use Rattle.log_chain.proofs.Fits.{LogFits, empty, more, PlaceFits, BallotFits, ClaimFits}
+use Rattle.log_chain.proofs.Prefix.{strings-take, fits-take, last-fits}
+use Rattle.log_chain.proofs.Said.{stringsOf, pointer-length}
 use Rattle.submission.specs.Trailer.{trailerAt, recordCount, distance}
 use Rattle.submission.specs.View.{Run, runs, Certificate, Commit, Lead, leadsOf, leads, Slot, slot, certified, votesOf, stampOf, receiptsOf, slots}
 use Rattle.submission.specs.Reading.{recordSize, recordsOf, ballotAt, certificateAt, certificateEnd, certificates, leadersFrom, view, laidOut}

@@ -16,8 +16,8 @@ use Rattle.refusal.proofs.Laws.{all-cons, every-mem}
 use Rattle.roster.specs.Roster.{quorum}
 use Rattle.roster.specs.Masks.{signer}
 use Rattle.roster.proofs.Masks.{listed}
-use Rattle.chain.specs.Log.{Form, Record, lastTerm}
-use Rattle.chain.specs.Claim.{Ballot, Claim, stamped, received, voted}
+use Rattle.log_chain.specs.Log.{Form, Record, lastTerm}
+use Rattle.log_chain.specs.Claim.{Ballot, Claim, stamped, received, voted}
 use Rattle.replica.specs.Ends.{rising}
 use Rattle.replica.proofs.Order.{take-last-le}
 use Rattle.submission.specs.View.{Run, runs, Certificate, Commit, View, Lead, leadsOf, leads, committedBy, committed, Slot, slot, certified, votesOf, stampOf, receiptsOf, slots}

@@ -9,8 +9,8 @@ use lib.Dec.{eqb}
 use lib.ListN.{take, drop}
 use Rattle.words.specs.BigEndian.{number, numberAt}
 use Rattle.refusal.specs.Checks.{all}
-use Rattle.chain.specs.Log.{Record}
-use Rattle.chain.specs.Claim.{Ballot}
+use Rattle.log_chain.specs.Log.{Record}
+use Rattle.log_chain.specs.Claim.{Ballot}
 use Rattle.submission.specs.Trailer.{trailerAt, recordCount, leaderCount, distance}
 use Rattle.submission.specs.View.{Certificate, Commit, View}
 

@@ -12,8 +12,8 @@ use Rattle.refusal.specs.Checks.{all, every, check, refusal}
 use Rattle.lms.specs.Check.{good}
 use Rattle.roster.specs.Roster.{cluster, boards, quorum, keyOf, signatureSize}
 use Rattle.roster.specs.Masks.{signer}
-use Rattle.chain.specs.Log.{Form, version1, pointer, lastTerm}
-use Rattle.chain.specs.Claim.{say}
+use Rattle.log_chain.specs.Log.{Form, version1, pointer, lastTerm}
+use Rattle.log_chain.specs.Claim.{say}
 use Rattle.replica.specs.Ends.{rising}
 use Rattle.submission.specs.Trailer.{trailerSize, name, recordCount, leaderCount, version}
 use Rattle.submission.specs.View.{Commit, View, Lead, leads, runs, Slot, slots}

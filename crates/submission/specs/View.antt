@@ -7,8 +7,8 @@ use Prim.Native.Nat.{ℕ}
 use lib.Dec.{eqb}
 use lib.ListN.{take, drop}
 use Rattle.roster.specs.Masks.{boardsOf}
-use Rattle.chain.specs.Log.{Record, lastTerm}
-use Rattle.chain.specs.Claim.{Ballot, Claim, stamped, received, voted}
+use Rattle.log_chain.specs.Log.{Record, lastTerm}
+use Rattle.log_chain.specs.Claim.{Ballot, Claim, stamped, received, voted}
 
 -- ---- the terms of a log
 

@@ -2,7 +2,7 @@
 -- Assumes nothing.
 use mathlib.Core.Path.{ap}
 use borrow.Author.Needs.{needs}
-use Rattle.lines.specs.Lines.{lines}
+use Rattle.text_report.specs.Lines.{lines}
 use Rattle.audit.proofs.Printed.{printed}
 use Rattle.audit.proofs.report_lines.Statement.{statement}
 use Rattle.audit.proofs.report_lines.Tie as tie

@@ -2,8 +2,8 @@
 -- Assumes nothing.
 use mathlib.Core.Path.{refl}
 use native.Mathlib.Omega.{arith}
-use Rattle.lanes.specs.Lane.{first, second, third, fourth, pick, lane}
-use Rattle.lane_words.proofs.Each.{each}
+use Rattle.sha256_lanes.specs.Lane.{first, second, third, fourth, pick, lane}
+use Rattle.sha256_lane_words.proofs.Each.{each}
 use Rattle.lm_chain.proofs.later.Statement.{statement}
 use Rattle.lm_chain.proofs.later.Tie as tie
 

@@ -10,7 +10,7 @@ use Rattle.sha256.specs.declared.State.{State}
 use Rattle.sha256.specs.Sha256.{rounds, initial, bytesOf}
 use Rattle.lm_hash.specs.declared.Leaf.{Leaf}
 use Rattle.lm_hash.specs.Identifier.{identifier}
-use Rattle.lanes.specs.Lane.{Lane, first, lane, state, wordIn}
+use Rattle.sha256_lanes.specs.Lane.{Lane, first, lane, state, wordIn}
 use Rattle.lm_chain_blocks.specs.Block.{stepBlock}
 use Rattle.lm_chain.specs.Chain.{stepped, chain}
 use Rattle.lm_chain.proofs.Chains.{chain-last}

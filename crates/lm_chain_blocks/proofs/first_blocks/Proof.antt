@@ -5,9 +5,9 @@ use mathlib.Core.Path.{_≡_, ap, _∙_}
 use mathlib.Core.List.{List}
 use borrow.Author.Needs.{needs}
 use lib.ListN.{getD}
-use Rattle.lanes.specs.Lane.{Lane, first, second, third, fourth, pick, lane, state}
+use Rattle.sha256_lanes.specs.Lane.{Lane, first, second, third, fourth, pick, lane, state}
 use Rattle.lm_chain_blocks.specs.Block.{stepBlock}
-use Rattle.lane_words.proofs.Each.{each}
+use Rattle.sha256_lane_words.proofs.Each.{each}
 use Rattle.lm_chain_blocks.proofs.first_blocks.Statement.{statement}
 use Rattle.lm_chain_blocks.proofs.first_blocks.Tie as tie
 

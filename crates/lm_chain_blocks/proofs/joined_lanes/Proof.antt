@@ -1,7 +1,7 @@
 -- Each lane by itself.
 -- Assumes nothing.
-use Rattle.lanes.specs.Lane.{pick, lane}
-use Rattle.lane_words.proofs.Each.{each}
+use Rattle.sha256_lanes.specs.Lane.{pick, lane}
+use Rattle.sha256_lane_words.proofs.Each.{each}
 use Rattle.lm_chain_blocks.proofs.joined_lanes.Statement.{statement}
 use Rattle.lm_chain_blocks.proofs.joined_lanes.Tie as tie
 

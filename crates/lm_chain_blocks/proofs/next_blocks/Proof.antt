@@ -1,8 +1,8 @@
 -- Nine words in their places, and the others as they were.
 -- Assumes nothing.
 use borrow.Author.Needs.{needs}
-use Rattle.lanes.specs.Lane.{first, second, third, fourth, pick, lane, state}
-use Rattle.lane_words.proofs.Each.{each}
+use Rattle.sha256_lanes.specs.Lane.{first, second, third, fourth, pick, lane, state}
+use Rattle.sha256_lane_words.proofs.Each.{each}
 use Rattle.lm_chain_blocks.proofs.Blocks.{moved-on}
 use Rattle.lm_chain_blocks.proofs.next_blocks.Statement.{statement}
 use Rattle.lm_chain_blocks.proofs.next_blocks.Tie as tie

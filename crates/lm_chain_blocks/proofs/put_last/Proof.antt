@@ -4,8 +4,8 @@ use Prim.Native.Nat.{ℕ}
 use mathlib.Core.Path.{_≡_, _∙_}
 use native.Mathlib.Omega.{arith}
 use borrow.Author.Needs.{needs}
-use Rattle.lanes.specs.Lane.{wordIn, changed}
-use Rattle.lane_words.proofs.Places.{changed-in}
+use Rattle.sha256_lanes.specs.Lane.{wordIn, changed}
+use Rattle.sha256_lane_words.proofs.Places.{changed-in}
 use Rattle.lm_chain_blocks.proofs.put_last.Statement.{statement}
 use Rattle.lm_chain_blocks.proofs.put_last.Tie as tie
 

@@ -1,0 +1,77 @@
+-- What the four rules charge a board with, from terms and receipts (document 01, "The report"), and the meaning of a row.
+use mathlib.Core.Bool.{cond}
+use mathlib.Core.List.{List, [], _∷_, _++_, map, flatMap}
+use mathlib.Core.Option.{Option, some, none}
+use Prim.Native.Nat.{ℕ, zero, suc}
+use lib.Dec.{eqb, leb, ltb}
+use lib.ListN.{take}
+use Rattle.refusal.specs.Checks.{all}
+use Rattle.log_chain.specs.Log.{Record, lastTerm}
+use Rattle.replica.specs.Charges.{Charge, charge}
+use Rattle.submission.specs.View.{Commit, View}
+use Rattle.forensics.specs.Findings as forensics
+use Rattle.forensics_rules.specs.declared.Tenure.{Tenure}
+use Rattle.forensics_rules.specs.Rules.{twoCandidates, twoLogs, forgotten}
+use Rattle.forensics_charges.specs.declared.Receipts.{Receipts}
+use Rattle.forensics_charges.specs.declared.Receipts.the-variants.{Given, Absent}
+use Rattle.forensics_charges.specs.declared.Row.{Row}
+use Rattle.forensics_charges.specs.declared.Findings.{Findings}
+
+-- ---- the receipts of a submission
+
+unfoldable pub receiptsBy : Option Commit → List Record → Receipts
+receiptsBy none log = Absent
+receiptsBy (some c) log =
+    Given (record { term = lastTerm (take (c .index) log); index = c .index; signers = c .signers })
+
+unfoldable pub receipts : View → Receipts
+receipts v = receiptsBy (v .commit) (v .log)
+
+-- ---- the charges of the rules, for board k
+
+module _ (k : ℕ) where
+  -- the charges from a term of the first submission and one of the second
+  unfoldable pub between : ℕ → Tenure → Tenure → List Charge
+  between difference x y = charge (twoCandidates k x y) 1 (x .term) ++ charge (twoLogs k difference x y) 2 (x .term)
+
+  unfoldable pub amongTerms : ℕ → List Tenure → List Tenure → List Charge
+  amongTerms difference xs ys = flatMap (λ x. flatMap (between difference x) ys) xs
+
+  -- the charges from the receipts of the one and the terms of the other
+  unfoldable pub afterReceipts : ℕ → Receipts → List Tenure → List Charge
+  afterReceipts rule Absent ys = []
+  afterReceipts rule (Given r) ys = flatMap (λ y. charge (forgotten k r y) rule (y .term)) ys
+
+-- all of them, from two submissions whose logs differ first at an index
+unfoldable pub ruledBy : ℕ → ℕ → List Tenure → List Tenure → Receipts → Receipts → List Charge
+ruledBy k difference xs ys first second =
+    amongTerms k difference xs ys ++ afterReceipts k 3 first ys ++ afterReceipts k 4 second xs
+
+-- the rows of so many boards from board k on
+unfoldable pub rowsBy : (ℕ → Option Charge) → ℕ → ℕ → List (Option Charge)
+rowsBy row zero k = []
+rowsBy row (suc count) k = row k ∷ rowsBy row count (suc k)
+
+-- ---- the fork
+
+-- from the first difference of the logs and the receipts of both: an index that both have committed
+unfoldable pub forkOf : ℕ → Receipts → Receipts → ℕ
+forkOf difference Absent second = 0
+forkOf difference (Given x) Absent = 0
+forkOf difference (Given x) (Given y) =
+    cond (all (ltb 0 difference ∷ leb difference (x .index) ∷ leb difference (y .index) ∷ [])) difference 0
+
+-- ---- the lowest charge
+
+-- the lower of the lowest charges of two lists, where there are any
+unfoldable pub least : Option Charge → Option Charge → Option Charge
+least none y = y
+least (some c) y = some (forensics.lower c y)
+
+-- ---- the meaning of a row
+
+unfoldable pub chargeOf : Row → Option Charge
+chargeOf row = cond (eqb (row .rule) 0) none (some (record { rule = row .rule; term = row .term }))
+
+unfoldable pub findingsOf : Findings → forensics.Findings
+findingsOf f = record { fork = f .fork; rows = map chargeOf (f .rows) }

@@ -1,0 +1,80 @@
+// What the four rules charge a board with, from two terms or from a receipt and a term, as a row of the report (document 01, "The report").
+ghost use mathlib.Core.Path.{_≡_};
+ghost use mathlib.Core.List.{[]};
+ghost use Prim.Native.Nat.{_<_};
+ghost use Rattle.replica.specs.Charges.{charge};
+ghost use Rattle.forensics.specs.Findings.{lowest};
+ghost use Rattle.forensics_rules.specs.Rules.{forgotten};
+ghost use Rattle.forensics_charges.specs.Charges as paper;
+use forensics_rules::Receipt;
+use forensics_rules::Tenure;
+
+// The receipts of a submission, where it has a commit certificate.
+pub enum Receipts {
+    Given(Receipt),
+    Absent,
+}
+
+// A row of the report: the rule and the term, both 0 for a board that is not named.
+pub struct Row {
+    pub rule: u8,
+    pub term: u32,
+}
+
+// The fork index, and the rows of boards 1 to 9.
+pub struct Findings {
+    pub fork: u32,
+    pub rows: [Row; 9],
+}
+
+// The row of a board that is not named.
+pub fn unnamed() -> Row
+    ensures { λ r. ⌜ paper.chargeOf r ≡ lowest [] ⌝ }
+{
+    Row { rule: 0, term: 0 }
+}
+
+// The lower of two rows: the lower rule and, for that rule, the lower term.
+pub fn lower(x: Row, y: Row) -> Row
+    ensures { λ r. ⌜ paper.chargeOf r ≡ paper.least (paper.chargeOf x) (paper.chargeOf y) ⌝ }
+{
+    if x.rule == 0 {
+        return y;
+    }
+    if y.rule == 0 {
+        return x;
+    }
+    if forensics_rules::staler(y.rule as u32, y.term, x.rule as u32, x.term) {
+        return y;
+    }
+    x
+}
+
+// The row for a rule, where it is broken.
+fn charged(broken: bool, rule: u8, term: u32) -> Row
+    requires { ⌜ 0 < rule ⌝ }
+    ensures { λ r. ⌜ paper.chargeOf r ≡ lowest (charge broken rule term) ⌝ }
+{
+    if broken {
+        return Row { rule, term };
+    }
+    unnamed()
+}
+
+// The row of board k from a term of the first submission and one of the second: rules 1 and 2.
+pub fn between(k: usize, difference: usize, x: Tenure, y: Tenure) -> Row
+    requires { ⌜ 0 < k ⌝ }
+    ensures { λ r. ⌜ paper.chargeOf r ≡ lowest (paper.between k difference x y) ⌝ }
+{
+    let votes = charged(forensics_rules::two_candidates(k, x, y), 1, x.term);
+    let stamps = charged(forensics_rules::two_logs(k, difference, x, y), 2, x.term);
+    lower(votes, stamps)
+}
+
+// The row of board k from a receipt of one submission and a term of the other: rule 3 or 4.
+pub fn after_receipt(k: usize, rule: u8, given: Receipt, y: Tenure) -> Row
+    requires { ⌜ (0 < k) × (0 < rule) ⌝ }
+    ensures { λ r. ⌜ paper.chargeOf r ≡ lowest (charge (forgotten k given y) rule (y .term)) ⌝ }
+{
+    charged(forensics_rules::forgotten(k, given, y), rule, y.term)
+}

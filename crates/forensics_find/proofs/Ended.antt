@@ -1,0 +1,63 @@
+-- The terms as they are read are those of the log: each ends where the next leader certificate says, which check 13 compared with the log, and
+-- the last ends with the log.
+-- Assumes nothing.
+use mathlib.Core.Path.{_≡_, refl, sym, ap, _∙_}
+use mathlib.Core.List.{List, [], _∷_, map}
+use Prim.Native.Nat.{ℕ, zero, suc, _+_, _-_}
+use native.Mathlib.Omega.{arith}
+use borrow.Author.Tests.{eqb-true}
+use lib.ListN.{length}
+use Rattle.log_chain.specs.Log.{Record, version1}
+use Rattle.roster.specs.Roster.{boards, signatureSize}
+use Rattle.submission.specs.Trailer.{recordCount, leaderCount}
+use Rattle.submission.specs.View.{Run, runs, leads, leadsOf}
+use Rattle.submission.specs.Reading.{recordsOf, certificateAt, certificateEnd, certificates, leadersFrom, view, stampsFrom}
+use Rattle.submission.specs.Validate.{formOf, viewOf, oneEach}
+use Rattle.submission.proofs.Accepted.{Sound, length-certificates}
+use Rattle.submission.proofs.Fits.{length-records}
+use Rattle.submission_leaders.proofs.Leads.{last-index-at}
+use Rattle.submission_stamps.proofs.Linked.{Linked, linked-runs, leadAt, leadsFrom, leads-first, TermsLeft, turn}
+use Rattle.forensics_find.proofs.Views.{tenure, tenures}
+use Rattle.forensics_tenures.specs.Tenures.{endAt, tenureAt, tenuresAt, tenuresOf}
+
+module _ (roster s : List ℕ) (S : ℕ) where
+  abbrev log : List Record
+  log = recordsOf 4 (recordCount s) s
+
+  -- where a term ends, with so many after it
+  run-ends : (later next stamp : ℕ) (before : List Record) (rs : List Run) → TermsLeft roster s S log later next stamp before rs
+      → length before ≡ endAt s later next
+  unfolding endAt Linked
+  run-ends zero next stamp before [] x = ap length (x .linked) ∙ length-records 4 (recordCount s) s
+  run-ends zero next stamp before (r ∷ rs) x = absurd (omega (arith, x .count))
+  run-ends (suc later) next stamp before rs x =
+      let t = turn roster s S log (suc later) next stamp before rs (omega arith) x in
+      ap length (sym (t .starts)) ∙ sym (t .facts .index) ∙ last-index-at s next
+
+  tenure-read : (later at stamp : ℕ) (r : Run) → length (r .upto) ≡ endAt s later (certificateEnd 4 S s at)
+      → tenure (leadAt roster s S at stamp r) ≡ tenureAt s later at (certificateEnd 4 S s at)
+  unfolding tenure tenureAt leadAt certificateAt
+  tenure-read later at stamp r e = rw e
+
+  terms-read : (left at stamp : ℕ) (before : List Record) (rs : List Run) → TermsLeft roster s S log left at stamp before rs
+      → map tenure (leadsFrom roster s S left at stamp rs) ≡ tenuresAt S s left at
+  unfolding leadsFrom leadsOf certificates tenuresAt
+  terms-read zero at stamp before rs x = refl
+  terms-read (suc later) at stamp before rs x =
+      let t = turn roster s S log (suc later) at stamp before rs (omega arith) x in
+      let next = certificateEnd 4 S s at in
+      let one : suc later - 1 ≡ later = omega arith in
+      let rest : TermsLeft roster s S log later next (stamp + S) (t .of .upto) (t .later) = rw one at (t .rest) in
+      rw (t .both, leads-first roster s S (suc later) at stamp (t .of) (t .later) (omega arith), one)
+      (λ k. tenure-read later at stamp (t .of) (run-ends later next (stamp + S) (t .of .upto) (t .later) rest) k
+      ∷ terms-read later next (stamp + S) (t .of .upto) (t .later) rest k)
+
+-- those of a sound submission
+pub tenures-read : (roster s : List ℕ) → Sound (formOf roster) (boards roster) (viewOf roster s)
+    → tenures (viewOf roster s) ≡ tenuresOf (signatureSize roster) s
+unfolding tenures tenuresOf leads leadsFrom viewOf view oneEach formOf version1
+tenures-read roster s sound =
+    let S = signatureSize roster in
+    let count = sym (eqb-true _ _ (sound .count)) ∙ length-certificates 4 S s (leaderCount s) (leadersFrom 4 S s) in
+    terms-read roster s S (leaderCount s) (leadersFrom 4 S s) (stampsFrom 4 S s) [] (runs (recordsOf 4 (recordCount s) s))
+    (record { linked = linked-runs (recordsOf 4 (recordCount s) s); count = count; leaders = sound .leaders })

@@ -1,0 +1,80 @@
+-- What the terms and receipts of two accepted submissions show, as they are read, is what their signatures show: the terms are the log's, a
+-- board's row is that of the numbers, and the fork is that of the first difference.
+-- Assumes nothing.
+use mathlib.Core.Path.{_≡_, sym}
+use mathlib.Core.Bool.{true}
+use mathlib.Core.List.{List, map}
+use Prim.Native.Nat.{ℕ, _<_}
+use native.Mathlib.Omega.{arith}
+use lib.ListN.{length}
+use Rattle.roster.specs.Roster.{boards, signatureSize, rosterNumber}
+use Rattle.roster.proofs.Accepted.{signature-bounds}
+use Rattle.log_chain.specs.Log.{version1}
+use Rattle.submission.specs.Trailer.{recordCount}
+use Rattle.submission.specs.View.{slots}
+use Rattle.submission.specs.Reading.{recordsOf, view, laidOut}
+use Rattle.submission.specs.Validate.{within, formOf, viewOf, validate}
+use Rattle.submission.proofs.Accepted.{Sound, validated}
+use Rattle.forensics.specs.Findings.{differAt, fork, charges, lowest, findings}
+use Rattle.submission_layout.specs.Parts.{Bounds}
+use Rattle.submission_layout.proofs.Inside.{bounds}
+use Rattle.forensics_charges.specs.declared.Receipts.{Receipts}
+use Rattle.forensics_charges.specs.declared.Row.{Row}
+use Rattle.forensics_charges.specs.Charges.{receipts, ruledBy, rowsBy, forkOf, chargeOf, findingsOf}
+use Rattle.forensics_find.proofs.Views.{ruled}
+use Rattle.forensics_tenures.specs.Tenures.{tenuresOf}
+use Rattle.forensics_find.specs.Read.{read}
+use Rattle.forensics_find.proofs.Boards.{rows-same}
+use Rattle.log_difference.proofs.Differ.{fork-ruled}
+use Rattle.forensics_find.proofs.Ended.{tenures-read}
+use Rattle.forensics_find.proofs.Rules.{rows-ruled}
+
+-- ---- the fork and the rows that were read
+
+module _ (S : ℕ) (a b : List ℕ) where
+  pub read-says : {m n d : ℕ} {first second : Receipts} (fork : ℕ) (rows : List Row) → d ≡ differAt 1 (recordsOf 4 m a) (recordsOf 4 n b)
+      → m ≡ recordCount a → n ≡ recordCount b → first ≡ receipts (view 4 S a) → second ≡ receipts (view 4 S b)
+      → fork ≡ forkOf d first second
+      → map chargeOf rows ≡ rowsBy (λ k. lowest (ruledBy k d (tenuresOf S a) (tenuresOf S b) first second)) 9 1
+      → findingsOf (record { fork = fork; rows = rows }) ≡ read S a b
+  unfolding findingsOf read view
+  read-says fork rows ed em en ef es fork-is rows-are = rw (fork-is, rows-are, ed, em, en, ef, es)
+
+-- ---- an accepted submission
+
+pub record Facts (roster s : List ℕ) : Type 0 where
+  pub inside : Bounds (signatureSize roster) s
+  pub laid : laidOut 4 (signatureSize roster) s ≡ true
+  pub commit : within (view 4 (signatureSize roster) s .commit) (length (view 4 (signatureSize roster) s .log)) ≡ true
+  pub sound : Sound (formOf roster) (boards roster) (viewOf roster s)
+
+pub facts : (roster s : List ℕ) → rosterNumber roster ≡ 0 → validate roster s ≡ 0 → Facts roster s
+unfolding viewOf formOf version1
+facts roster s fine ok =
+    let v = validated roster s ok in
+    record {
+      inside = bounds (signatureSize roster) s (v .size) (v .counts) (signature-bounds roster fine .1);
+      laid = v .layout;
+      commit = v .sound .commit;
+      sound = v .sound;
+    }
+
+-- ---- two
+
+module _ (roster a b : List ℕ) (first : Facts roster a) (second : Facts roster b) where
+  row-read : (k : ℕ) → 0 < k → k < 10
+      → lowest (charges k (slots (signatureSize roster) (viewOf roster a)) (slots (signatureSize roster) (viewOf roster b)))
+      ≡ lowest (ruledBy k (differAt 1 (viewOf roster a .log) (viewOf roster b .log)) (tenuresOf (signatureSize roster) a) (tenuresOf (signatureSize roster) b)
+      (receipts (viewOf roster a)) (receipts (viewOf roster b)))
+  unfolding ruled
+  row-read k low high =
+      rw (← tenures-read roster a (first .sound), ← tenures-read roster b (second .sound))
+      (rows-ruled (formOf roster) (boards roster) (signatureSize roster) k low (omega arith) (viewOf roster a) (viewOf roster b) (first .sound) (second .sound))
+
+  pub read-is : read (signatureSize roster) a b ≡ findings (signatureSize roster) (viewOf roster a) (viewOf roster b)
+  unfolding read findings viewOf formOf version1
+  read-is =
+      λ i. record {
+        fork = sym (fork-ruled (viewOf roster a) (viewOf roster b)) i;
+        rows = rows-same _ _ _ 9 1 (λ k low high. row-read k (omega arith) (omega arith)) i;
+      }

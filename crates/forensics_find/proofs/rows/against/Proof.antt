@@ -1,0 +1,91 @@
+-- One term of the second submission a turn.
+-- The loop of `after_given` with another kind of charge, since a function cannot be handed one. What both argue stands in `proofs/Left.antt`.
+-- Assumes nothing.
+use mathlib.Core.List.{flatMap}
+use native.Mathlib.Omega.{arith}
+use Rattle.forensics.specs.Findings.{lowest}
+use Rattle.forensics_charges.specs.Charges.{chargeOf, between}
+use Rattle.forensics_tenures.specs.Tenures.{tenuresOf}
+use Rattle.forensics_find.proofs.Left.{RowsLeft, rows-all, first-inside, next-inside, rows-next, rows-done}
+use borrow.Author.Needs.{needs}
+use Rattle.forensics_find.proofs.rows.against.Statement.{statement}
+use Rattle.forensics_find.proofs.rows.against.Tie as tie
+
+abbrev Inv-loop : tie.InvT-loop
+Inv-loop k difference x s size best₀ left₀ at₀ best left at =
+    RowsLeft size s (between k difference x) (lowest (flatMap (between k difference x) (tenuresOf size s))) left at (chargeOf best)
+
+abbrev μ-loop : tie.MeasureT-loop
+μ-loop k difference x s size best₀ left₀ at₀ best left at = left
+
+leader-count-requires : tie.Need-leader-count-requires Inv-loop μ-loop
+leader-count-requires c κs = c .before .before .pre .1 .long
+
+leaders-from-requires : tie.Need-leaders-from-requires Inv-loop μ-loop
+leaders-from-requires c κs =
+    let p = c .before .before .before .pre .1 in
+    (p .long, p .records)
+
+loop-holds : tie.Need-loop-holds Inv-loop μ-loop
+loop-holds c =
+    let start = c .before .before .before .before in
+    rows-all (start .args .size) (start .args .s .now) _ (start .pre .2) (c .before .before .unnamed .ensures)
+    (c .before .leader-count .ensures .0) (c .leaders-from .ensures)
+
+certificate-end-requires : tie.Need-certificate-end-requires Inv-loop μ-loop
+certificate-end-requires c κs =
+    let start = c .before .before .before .before .before .before in
+    let a = start .args in
+    let l = c .before .loop in
+    let p = start .pre .1 in
+    (first-inside (a .size) (a .s .now) _ _ (l .left) (l .at) (l .inv) (omega arith), p .short, p .signature)
+
+tenure-at-requires : tie.Need-tenure-at-requires Inv-loop μ-loop
+tenure-at-requires c κs =
+    let start = c .before .before .before .before .before .before .before in
+    let a = start .args in
+    let l = c .before .before .loop in
+    let p = start .pre .1 in (
+      p .long,
+      p .short,
+      first-inside (a .size) (a .s .now) _ _ (l .left) (l .at) (l .inv) (omega arith),
+      next-inside (a .size) (a .s .now) _ _ (l .left) (l .at) (l .inv) (omega arith) (c .certificate-end .ensures),
+    )
+
+between-requires : tie.Need-between-requires Inv-loop μ-loop
+between-requires c κs =
+    let p = c .before .before .before .before .before .before .before .before .pre in
+    p .0
+
+loop-again : tie.Need-loop-again Inv-loop μ-loop
+loop-again c =
+    let a = c .before .before .before .before .before .before .before .before .before .before .args in
+    let l = c .before .before .before .before .before .loop in
+    rows-next (a .size) (a .s .now) _ _ (l .left) (l .at) (l .inv) (omega (arith, c .before .before .before .before .loop-test .taken))
+    (c .before .before .before .certificate-end .ensures) (c .before .before .tenure-at .ensures) (c .before .between .ensures) (c .lower .ensures)
+
+returns : tie.Need-returns Inv-loop μ-loop
+returns c =
+    let a = c .before .before .before .before .before .before .args in
+    let l = c .before .loop in
+    rows-done (a .size) (a .s .now) _ _ (l .left) (l .at) (l .inv) (omega arith)
+
+pub against-spec : {M : Type 1} → statement M
+against-spec =
+    tie.close
+    (tie.spec
+    Inv-loop
+    μ-loop
+    (λ c κs. search needs)
+    leader-count-requires
+    leaders-from-requires
+    loop-holds
+    certificate-end-requires
+    (λ c. omega arith)
+    tenure-at-requires
+    between-requires
+    (λ c κs. search needs)
+    (λ c. omega (arith, c .before .before .before .before .loop-test .taken))
+    (λ c. omega (arith, c .before .before .before .before .loop-test .taken))
+    loop-again
+    returns)

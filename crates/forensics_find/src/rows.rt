@@ -1,0 +1,124 @@
+// A board's row: the lowest of what the four rules charge it with, from two submissions (document 01, "The report").
+ghost use mathlib.Core.Path.{_≡_};
+ghost use mathlib.Core.Bool.{true};
+ghost use mathlib.Core.List.{map, flatMap};
+ghost use Prim.Native.Nat.{_<_};
+ghost use Rattle.submission.specs.Reading.{laidOut};
+ghost use Rattle.forensics.specs.Findings.{lowest};
+ghost use Rattle.submission_layout.specs.Parts.{Bounds};
+ghost use Rattle.forensics_charges.specs.Charges as paper;
+ghost use Rattle.forensics_charges.specs.declared.Receipts.the-variants.{Given};
+ghost use Rattle.forensics_tenures.specs.Tenures.{tenuresOf};
+use forensics_charges::Receipts;
+use forensics_charges::Row;
+use forensics_rules::Receipt;
+use forensics_rules::Tenure;
+
+// The boards that have a row.
+const ROWS: usize = 9;
+
+// The row of board k from a term of the first submission and those of the second: rules 1 and 2.
+fn against(k: usize, difference: usize, x: Tenure, s: &[u8], size: usize) -> Row
+    requires { ⌜ (0 < k) × Bounds size (now s) × (laidOut 4 size (now s) ≡ true) ⌝ }
+    ensures { λ r. ⌜ paper.chargeOf r ≡ lowest (flatMap (paper.between k difference x) (tenuresOf size (now (s .entry)))) ⌝ }
+{
+    let mut best = forensics_charges::unnamed();
+    let mut left = submission_trailer::leader_count(s);
+    let mut at = submission_layout::leaders_from(s);
+    while 0 < left {
+        let next = submission_reader::certificate_end(s, at, size);
+        let y = forensics_tenures::tenure_at(s, left - 1, at, next);
+        best = forensics_charges::lower(best, forensics_charges::between(k, difference, x, y));
+        at = next;
+        left -= 1;
+    }
+    best
+}
+
+// The row of board k from the terms of two submissions: rules 1 and 2.
+fn among_terms(k: usize, difference: usize, a: &[u8], b: &[u8], size: usize) -> Row
+    requires { ⌜ (0 < k) × Bounds size (now a) × (laidOut 4 size (now a) ≡ true) × Bounds size (now b) × (laidOut 4 size (now b) ≡ true) ⌝ }
+    ensures { λ r. ⌜ paper.chargeOf r ≡ lowest (paper.amongTerms k difference (tenuresOf size (now (a .entry))) (tenuresOf size (now (b .entry)))) ⌝ }
+{
+    let mut best = forensics_charges::unnamed();
+    let mut left = submission_trailer::leader_count(a);
+    let mut at = submission_layout::leaders_from(a);
+    while 0 < left {
+        let next = submission_reader::certificate_end(a, at, size);
+        let x = forensics_tenures::tenure_at(a, left - 1, at, next);
+        best = forensics_charges::lower(best, against(k, difference, x, b, size));
+        at = next;
+        left -= 1;
+    }
+    best
+}
+
+// The row of board k from a receipt of the one and the terms of the other: rule 3 or 4. The loop is that of `against`: one over both kinds of charge would need
+// an enum of them, with its own contract, and a match in each turn.
+fn after_given(k: usize, rule: u8, given: Receipt, s: &[u8], size: usize) -> Row
+    requires { ⌜ (0 < k) × (0 < rule) × Bounds size (now s) × (laidOut 4 size (now s) ≡ true) ⌝ }
+    ensures { λ r. ⌜ paper.chargeOf r ≡ lowest (paper.afterReceipts k rule (Given given) (tenuresOf size (now (s .entry)))) ⌝ }
+{
+    let mut best = forensics_charges::unnamed();
+    let mut left = submission_trailer::leader_count(s);
+    let mut at = submission_layout::leaders_from(s);
+    while 0 < left {
+        let next = submission_reader::certificate_end(s, at, size);
+        let y = forensics_tenures::tenure_at(s, left - 1, at, next);
+        best = forensics_charges::lower(best, forensics_charges::after_receipt(k, rule, given, y));
+        at = next;
+        left -= 1;
+    }
+    best
+}
+
+// The row of board k from the receipts of the one, where it has any, and the terms of the other.
+fn after_receipts(k: usize, rule: u8, receipts: Receipts, s: &[u8], size: usize) -> Row
+    requires { ⌜ (0 < k) × (0 < rule) × Bounds size (now s) × (laidOut 4 size (now s) ≡ true) ⌝ }
+    ensures { λ r. ⌜ paper.chargeOf r ≡ lowest (paper.afterReceipts k rule receipts (tenuresOf size (now (s .entry)))) ⌝ }
+{
+    match receipts {
+        Receipts::Given(given) => after_given(k, rule, given, s, size),
+        Receipts::Absent => forensics_charges::unnamed(),
+    }
+}
+
+// The row of board k, from two submissions whose logs differ first at an index, and their receipts.
+fn row(
+    k: usize,
+    difference: usize,
+    a: &[u8],
+    b: &[u8],
+    first: Receipts,
+    second: Receipts,
+    size: usize,
+) -> Row
+    requires { ⌜ (0 < k) × Bounds size (now a) × (laidOut 4 size (now a) ≡ true) × Bounds size (now b) × (laidOut 4 size (now b) ≡ true) ⌝ }
+    ensures { λ r. ⌜ paper.chargeOf r ≡ lowest (paper.ruledBy k difference (tenuresOf size (now (a .entry))) (tenuresOf size (now (b .entry))) first second) ⌝ }
+{
+    let terms = among_terms(k, difference, a, b, size);
+    let third = after_receipts(k, 3, first, b, size);
+    let fourth = after_receipts(k, 4, second, a, size);
+    forensics_charges::lower(forensics_charges::lower(terms, third), fourth)
+}
+
+// The rows of boards 1 to 9.
+pub fn rows(
+    difference: usize,
+    a: &[u8],
+    b: &[u8],
+    first: Receipts,
+    second: Receipts,
+    size: usize,
+) -> [Row; 9]
+    requires { ⌜ Bounds size (now a) × (laidOut 4 size (now a) ≡ true) × Bounds size (now b) × (laidOut 4 size (now b) ≡ true) ⌝ }
+    ensures { λ r. ⌜ map paper.chargeOf r ≡ paper.rowsBy (λ k. lowest (paper.ruledBy k difference (tenuresOf size (now (a .entry))) (tenuresOf size (now (b .entry))) first second)) 9 1 ⌝ }
+{
+    let mut out = [Row { rule: 0, term: 0 }; 9];
+    let mut i = 0;
+    while i < ROWS {
+        out[i] = row(i + 1, difference, a, b, first, second, size);
+        i += 1;
+    }
+    out
+}

@@ -1,0 +1,13 @@
+-- What follows the first i of a submission's records, which a walk over the log has yet to see: the records, and their terms.
+use mathlib.Core.List.{List}
+use Prim.Native.Nat.{ℕ, _-_, _*_}
+use lib.ListN.{drop}
+use Rattle.log_chain.specs.Log.{Record}
+use Rattle.submission.specs.View.{Run, runsAfter}
+use Rattle.submission.specs.Reading.{recordSize, recordsOf}
+
+abbrev pub recordsAfter : ℕ → ℕ → ℕ → List ℕ → List Record
+recordsAfter w count i s = recordsOf w (count - i) (drop (recordSize w * i) s)
+
+abbrev pub runsLeft : ℕ → ℕ → ℕ → List ℕ → List Run
+runsLeft w count i s = runsAfter (recordsOf w i s) (recordsAfter w count i s)

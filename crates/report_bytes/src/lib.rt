@@ -1,0 +1,53 @@
+// The report's bytes, written (document 01, "The report"): number, where, fork index, named boards, and nine rows.
+ghost use mathlib.Core.Path.{_≡_};
+ghost use mathlib.Core.List.{_++_};
+ghost use Prim.Native.Nat.{_≤_};
+ghost use lib.ListN.{length, drop};
+ghost use lib.Seq.{sets};
+ghost use Rattle.words.specs.BigEndian.{be};
+ghost use Rattle.report.specs.Report.{refused, reportSize, reportBytes};
+ghost use Rattle.report_bytes.specs.Answers.{answered, accepted};
+use forensics_charges::Findings;
+use forensics_charges::Row;
+
+// Writes number, where, fork index and named boards to the first 8 bytes.
+fn put_head(out: &mut [u8], number: u32, side: u32, fork: u32, mask: u16)
+    requires { ⌜ 8 ≤ length (now out) ⌝ }
+    ensures { λ _. ⌜ now (out .exit) ≡ sets (now (out .entry)) 0 (be 1 number ++ be 1 side ++ be 4 fork ++ be 2 mask) ⌝ }
+{
+    report_rows::put_u8(out, 0, number);
+    report_rows::put_u8(out, 1, side);
+    words::put_u32(out, 2, fork);
+    words::put_u16(out, 6, mask);
+}
+
+// Writes a report: number, where, fork index and rows.
+fn put_report(out: &mut [u8], number: u32, side: u32, fork: u32, rows: [Row; 9])
+    requires { ⌜ reportSize ≤ length (now out) ⌝ }
+    ensures { λ _. ⌜ now (out .exit) ≡ reportBytes (answered number side fork rows) ++ drop reportSize (now (out .entry)) ⌝ }
+{
+    put_head(out, number, side, fork, report_mask::named(rows));
+    report_rows::put_rows(out, rows);
+}
+
+// Writes the report of two accepted submissions to the first 53 bytes, keeps the rest, and gives the number.
+pub fn write_accepted(report: &mut [u8], findings: Findings) -> u32
+    requires { ⌜ reportSize ≤ length (now report) ⌝ }
+    ensures number { λ r. ⌜ r ≡ accepted findings .number ⌝ }
+    ensures bytes { λ _. ⌜ now (report .exit) ≡ reportBytes (accepted findings) ++ drop reportSize (now (report .entry)) ⌝ }
+{
+    let rows = findings.rows;
+    put_report(report, 0, 0, findings.fork, rows);
+    0
+}
+
+// Writes the report of a refusal to the first 53 bytes, keeps the rest, and gives the number.
+pub fn write_refused(report: &mut [u8], number: u32, side: u32) -> u32
+    requires { ⌜ reportSize ≤ length (now report) ⌝ }
+    ensures number { λ r. ⌜ r ≡ refused number side .number ⌝ }
+    ensures bytes { λ _. ⌜ now (report .exit) ≡ reportBytes (refused number side) ++ drop reportSize (now (report .entry)) ⌝ }
+{
+    let rows = [Row { rule: 0, term: 0 }; 9];
+    put_report(report, number, side, 0, rows);
+    number
+}

@@ -1,0 +1,78 @@
+-- Each check that is not met ends the validation with its number; those that are met are what the next one asks for.
+-- Assumes nothing.
+use mathlib.Core.Path.{sym, _∙_}
+use native.Mathlib.Omega.{arith}
+use borrow.Author.Tests.{not-true, not-false}
+use Rattle.refusal.proofs.Laws.{passed, refused}
+use Rattle.roster.proofs.Accepted.{sizes}
+use Rattle.submission_checks.specs.Checks.{leaderChecks}
+use Rattle.submission_signatures.proofs.Facts.{records-in, leaders-in, one-each}
+use Rattle.submission_checks.proofs.Facts.{asked-leading, leaders-passed}
+use Rattle.submission_checks.proofs.leader_number.Statement.{statement}
+use Rattle.submission_checks.proofs.leader_number.Tie as tie
+
+all-leading-requires : tie.Need-all-leading-requires
+all-leading-requires c κs =
+    let a = c .before .before .before .before .before .before .args in
+    let p = c .before .before .before .before .before .before .pre in
+    rw (c .before .before .record-count .ensures .0, c .before .leader-count .ensures .0, c .leaders-from .ensures) (
+      p .laid .bounds .records,
+      records-in (a .roster .now) (a .size) (a .s .now) (p .laid),
+      sym (one-each (a .size) (a .s .now) (p .count)),
+      leaders-in (a .roster .now) (a .size) (a .s .now) (p .laid),
+    )
+
+returns : tie.Need-returns
+unfolding leaderChecks
+returns c =
+    let a = c .before .before .before .before .before .before .before .before .args in
+    let led = asked-leading (a .roster .now) (a .size) (a .s .now) (c .before .before .before .before .before .boards .ensures .0) (c .before .before .before .before .record-count .ensures .0) (c .before .before .before .leader-count .ensures .0) (c .before .before .leaders-from .ensures) (c .before .all-leading .ensures) in
+    sym (refused 13 _ _ (sym led ∙ not-true _ (c .if1 .taken)))
+
+returns-2 : tie.Need-returns-2
+unfolding leaderChecks
+returns-2 c =
+    let a = c .before .before .before .before .before .before .before .before .before .before .args in
+    let led = asked-leading (a .roster .now) (a .size) (a .s .now) (c .before .before .before .before .before .before .before .boards .ensures .0) (c .before .before .before .before .before .before .record-count .ensures .0) (c .before .before .before .before .before .leader-count .ensures .0) (c .before .before .before .before .leaders-from .ensures) (c .before .before .before .all-leading .ensures) in
+    sym (passed 13 _ _ (sym led ∙ not-false _ (c .before .before .if1 .left)) ∙ refused 14 _ _ (sym (c .before .within .ensures) ∙ not-true _ (c .if2 .taken)))
+
+all-good-requires : tie.Need-all-good-requires
+all-good-requires c κs =
+    let a = c .before .before .before .before .before .before .before .before .before .before .args in
+    let led = asked-leading (a .roster .now) (a .size) (a .s .now) (c .before .before .before .before .before .before .before .boards .ensures .0) (c .before .before .before .before .before .before .record-count .ensures .0) (c .before .before .before .before .before .leader-count .ensures .0) (c .before .before .before .before .leaders-from .ensures) (c .before .before .before .all-leading .ensures) in
+    record {
+      counted = c .before .before .before .before .before .before .before .before .before .before .pre;
+      leaders = sym led ∙ not-false _ (c .before .before .if1 .left);
+      commit = sym (c .before .within .ensures) ∙ not-false _ (c .if2 .left);
+    }
+
+returns-3 : tie.Need-returns-3
+unfolding leaderChecks
+returns-3 c =
+    let a = c .before .before .before .before .before .before .before .before .before .before .before .before .args in
+    let led = asked-leading (a .roster .now) (a .size) (a .s .now) (c .before .before .before .before .before .before .before .before .before .boards .ensures .0) (c .before .before .before .before .before .before .before .before .record-count .ensures .0) (c .before .before .before .before .before .before .before .leader-count .ensures .0) (c .before .before .before .before .before .before .leaders-from .ensures) (c .before .before .before .before .before .all-leading .ensures) in
+    sym (passed 13 _ _ (sym led ∙ not-false _ (c .before .before .before .before .if1 .left)) ∙ passed 14 _ _ (sym (c .before .before .before .within .ensures) ∙ not-false _ (c .before .before .if2 .left))
+    ∙ refused 15 _ _ (sym (c .before .all-good .ensures) ∙ not-true _ (c .if3 .taken)))
+
+returns-4 : tie.Need-returns-4
+returns-4 c =
+    let a = c .before .before .before .before .before .before .before .before .before .before .before .before .args in
+    let led = asked-leading (a .roster .now) (a .size) (a .s .now) (c .before .before .before .before .before .before .before .before .before .boards .ensures .0) (c .before .before .before .before .before .before .before .before .record-count .ensures .0) (c .before .before .before .before .before .before .before .leader-count .ensures .0) (c .before .before .before .before .before .before .leaders-from .ensures) (c .before .before .before .before .before .all-leading .ensures) in
+    leaders-passed (a .roster .now) (a .size) (a .s .now) (sym led ∙ not-false _ (c .before .before .before .before .if1 .left)) (sym (c .before .before .before .within .ensures) ∙ not-false _ (c .before .before .if2 .left))
+    (sym (c .before .all-good .ensures) ∙ not-false _ (c .if3 .left))
+
+pub leader-number-spec : {M : Type 1} → statement M
+leader-number-spec =
+    tie.close
+    (tie.spec
+    (λ c κs. let z = sizes _ (c .before .before .pre .laid .fine) in omega arith)
+    (λ c κs. c .before .before .before .pre .laid .bounds .long)
+    (λ c κs. c .before .before .before .before .pre .laid .bounds .long)
+    (λ c κs. let b = c .before .before .before .before .before .pre .laid .bounds in (b .long, b .records))
+    all-leading-requires
+    returns
+    (λ c κs. let laid = c .before .before .before .before .before .before .before .before .pre .laid in (laid .bounds, laid .layout))
+    returns-2
+    all-good-requires
+    returns-3
+    returns-4)

@@ -1,0 +1,60 @@
+-- The terms in order, then their number, then the leaders.
+-- Assumes nothing.
+use mathlib.Core.Path.{sym, _∙_}
+use borrow.Author.Tests.{not-true, not-false, eq-eqb, ne-eqb}
+use Rattle.refusal.proofs.Laws.{passed, refused}
+use Rattle.submission.specs.Validate.{ordered}
+use Rattle.submission_checks.specs.Checks.{logChecks}
+use Rattle.submission_signatures.proofs.Facts.{records-in}
+use Rattle.submission_checks.proofs.Facts.{asked-ordered, asked-count}
+use Rattle.submission_checks.proofs.log_number.Statement.{statement}
+use Rattle.submission_checks.proofs.log_number.Tie as tie
+
+ordered-requires : tie.Need-ordered-requires
+ordered-requires c κs = rw (c .record-count .ensures .0) (records-in _ _ _ (c .before .before .before .pre))
+
+returns : tie.Need-returns
+unfolding logChecks
+returns c =
+    let a = c .before .before .before .before .before .args in
+    let rising = asked-ordered (a .size) (a .s .now) (c .before .before .record-count .ensures .0) (c .before .ordered .ensures) in
+    sym (refused 11 _ _ (sym rising ∙ not-true _ (c .if1 .taken)))
+
+run-count-requires : tie.Need-run-count-requires
+run-count-requires c κs = rw (c .before .before .before .record-count .ensures .0) (records-in _ _ _ (c .before .before .before .before .before .before .pre))
+
+returns-2 : tie.Need-returns-2
+unfolding logChecks
+returns-2 c =
+    let a = c .before .before .before .before .before .before .before .before .args in
+    let rising = asked-ordered (a .size) (a .s .now) (c .before .before .before .before .before .record-count .ensures .0) (c .before .before .before .before .ordered .ensures) in
+    let count = asked-count (a .size) (a .s .now) (c .before .before .before .before .before .record-count .ensures .0) (c .before .before .leader-count .ensures .0) (c .before .run-count .ensures) in
+    sym (passed 11 _ _ (sym rising ∙ not-false _ (c .before .before .before .if1 .left)) ∙ refused 12 _ _ (count ∙ ne-eqb _ _ (c .if2 .taken)))
+
+leader-number-requires : tie.Need-leader-number-requires
+leader-number-requires c κs =
+    let a = c .before .before .before .before .before .before .before .before .args in
+    let count = asked-count (a .size) (a .s .now) (c .before .before .before .before .before .record-count .ensures .0) (c .before .before .leader-count .ensures .0) (c .before .run-count .ensures) in
+    record { laid = c .before .before .before .before .before .before .before .before .pre; count = count ∙ eq-eqb _ _ (c .if2 .left) }
+
+returns-3 : tie.Need-returns-3
+unfolding logChecks
+returns-3 c =
+    let a = c .before .before .before .before .before .before .before .before .before .args in
+    let rising = asked-ordered (a .size) (a .s .now) (c .before .before .before .before .before .before .record-count .ensures .0) (c .before .before .before .before .before .ordered .ensures) in
+    let count = asked-count (a .size) (a .s .now) (c .before .before .before .before .before .before .record-count .ensures .0) (c .before .before .before .leader-count .ensures .0) (c .before .before .run-count .ensures) in
+    c .leader-number .ensures
+    ∙ sym (passed 11 _ _ (sym rising ∙ not-false _ (c .before .before .before .before .if1 .left)) ∙ passed 12 _ _ (count ∙ eq-eqb _ _ (c .before .if2 .left)))
+
+pub log-number-spec : {M : Type 1} → statement M
+log-number-spec =
+    tie.close
+    (tie.spec
+    (λ c κs. c .before .before .pre .bounds .long)
+    ordered-requires
+    returns
+    (λ c κs. c .before .before .before .before .before .pre .bounds .long)
+    run-count-requires
+    returns-2
+    leader-number-requires
+    returns-3)

@@ -1,0 +1,94 @@
+// The number of the first check that a submission does not meet (document 01, "What stops an audit": the lowest number that applies), each
+// check asked after those before it, for version 1: terms of 4 bytes.
+ghost use mathlib.Core.Path.{_≡_};
+ghost use mathlib.Core.Bool.{cond};
+ghost use lib.Dec.{eqb};
+ghost use Rattle.refusal.specs.Checks.{refusal};
+ghost use Rattle.roster.specs.Roster.{rosterNumber};
+ghost use Rattle.submission_layout.specs.Parts.{Bounds};
+ghost use Rattle.submission.specs.Validate as paper;
+ghost use Rattle.submission_signatures.specs.Checked.{Laid, Counted};
+ghost use Rattle.submission_checks.specs.Checks.{leaderChecks, logChecks, partChecks};
+
+// 13 to 15.
+fn leader_number(roster: &[u8], s: &[u8], size: usize) -> u32
+    requires { ⌜ Counted (now roster) size (now s) ⌝ }
+    ensures { λ r. ⌜ r ≡ refusal (leaderChecks (now (roster .entry)) size (now (s .entry))) ⌝ }
+{
+    let n = roster::boards(roster);
+    let records = submission_trailer::record_count(s);
+    let count = submission_trailer::leader_count(s);
+    let from = submission_layout::leaders_from(s);
+    if !submission_leaders::all_leading(s, n, size, records, count, from) {
+        return 13;
+    }
+    if !submission_commit::within(s, size) {
+        return 14;
+    }
+    if !submission_signatures::all_good(roster, s, size) {
+        return 15;
+    }
+    0
+}
+
+// 11 to 15.
+fn log_number(roster: &[u8], s: &[u8], size: usize) -> u32
+    requires { ⌜ Laid (now roster) size (now s) ⌝ }
+    ensures { λ r. ⌜ r ≡ refusal (logChecks (now (roster .entry)) size (now (s .entry))) ⌝ }
+{
+    let records = submission_trailer::record_count(s);
+    if !log_terms::ordered(s, records) {
+        return 11;
+    }
+    if submission_trailer::leader_count(s) != log_terms::run_count(s, records) {
+        return 12;
+    }
+    leader_number(roster, s, size)
+}
+
+// 9 to 15.
+fn part_number(roster: &[u8], s: &[u8], size: usize) -> u32
+    requires { ⌜ (rosterNumber (now roster) ≡ 0) × Bounds size (now s) ⌝ }
+    ensures { λ r. ⌜ r ≡ refusal (partChecks (now (roster .entry)) size (now (s .entry))) ⌝ }
+{
+    if !submission_layout::laid_out(s, size) {
+        return 9;
+    }
+    let n = roster::boards(roster);
+    if !submission_quorums::all_quorate(s, n, size) {
+        return 10;
+    }
+    log_number(roster, s, size)
+}
+
+// 5 to 15, against a roster that has no refusal.
+pub fn number(roster: &[u8], s: &[u8]) -> u32
+    requires { ⌜ rosterNumber (now roster) ≡ 0 ⌝ }
+    ensures { λ r. ⌜ r ≡ paper.validate (now (roster .entry)) (now (s .entry)) ⌝ }
+{
+    if !submission_trailer::sized(s) {
+        return 5;
+    }
+    if !submission_trailer::versioned(s) {
+        return 6;
+    }
+    if !submission_trailer::named(roster, s) {
+        return 7;
+    }
+    if !submission_trailer::counted(s) {
+        return 8;
+    }
+    let size = roster::signature_size(roster);
+    part_number(roster, s, size)
+}
+
+// The roster's refusal, or that of the submission against it; 0 where both are accepted.
+pub fn validate(roster: &[u8], s: &[u8]) -> u32
+    ensures { λ r. ⌜ r ≡ cond (eqb (rosterNumber (now (roster .entry))) 0) (paper.validate (now (roster .entry)) (now (s .entry))) (rosterNumber (now (roster .entry))) ⌝ }
+{
+    let refused = roster_checks::validate(roster);
+    if refused != 0 {
+        return refused;
+    }
+    number(roster, s)
+}

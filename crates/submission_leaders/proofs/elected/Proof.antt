@@ -1,0 +1,53 @@
+-- Each test that fails ends the check, and the last decides.
+-- Assumes nothing.
+use mathlib.Core.Path.{ap, _∙_}
+use Prim.Native.Nat.{ℕ, _+_}
+use native.Mathlib.Omega.{arith}
+use borrow.Author.Needs.{needs}
+use Rattle.roster.specs.Masks.{signer}
+use Rattle.submission.specs.Reading.{ballotSize, signersAt}
+use Rattle.submission_leaders.proofs.Leads.{candidate-at, signers-at, no-board, above-boards, by-signer}
+use Rattle.submission_leaders.proofs.elected.Statement.{statement}
+use Rattle.submission_leaders.proofs.elected.Tie as tie
+
+returns : tie.Need-returns
+returns c =
+    let a = c .before .before .before .args in
+    let s = a .s .now in
+    let who = c .before .u16-at .ensures .0 ∙ candidate-at s (a .at) in
+    no-board (a .n) (signersAt s (a .at + ballotSize 4)) _ (rw (← who) (c .if1 .taken))
+
+returns-2 : tie.Need-returns-2
+returns-2 c =
+    let a = c .before .before .before .before .args in
+    let s = a .s .now in
+    let who = c .before .before .u16-at .ensures .0 ∙ candidate-at s (a .at) in
+    above-boards (a .n) (signersAt s (a .at + ballotSize 4)) _ (rw (← who) (c .before .if1 .left)) (rw (← who) (c .if2 .taken))
+
+u16-at-requires-2 : tie.Need-u16-at-requires-2
+unfolding ballotSize
+u16-at-requires-2 c κs = omega arith
+
+returns-3 : tie.Need-returns-3
+returns-3 c =
+    let a = c .before .before .before .before .before .before .args in
+    let s = a .s .now in
+    let who = c .before .before .before .before .u16-at .ensures .0 ∙ candidate-at s (a .at) in
+    let mask = c .before .u16-at2 .ensures .0 ∙ signers-at s (a .at) in
+    c .signer .ensures
+    ∙ ap (λ (m : ℕ). signer m (c .before .before .before .before .u16-at .result)) mask
+    ∙ ap (signer (signersAt s (a .at + ballotSize 4))) who
+    ∙ by-signer (a .n) (signersAt s (a .at + ballotSize 4)) _ (rw (← who) (c .before .before .before .if1 .left)) (rw (← who) (c .before .before .if2 .left))
+
+pub elected-spec : {M : Type 1} → statement M
+elected-spec =
+    tie.close
+    (tie.spec
+    (λ c κs. search needs)
+    (λ c. search needs)
+    returns
+    returns-2
+    (λ c. search needs)
+    u16-at-requires-2
+    (λ c κs. search needs)
+    returns-3)

@@ -1,0 +1,89 @@
+-- Check 10, one certificate after the other: the first mask that is not quorate, or the last, gives the answer.
+-- Assumes nothing.
+use mathlib.Core.Path.{_≡_, refl, sym, ap, _∙_}
+use mathlib.Core.Bool.{Bool, true, false, not, cond}
+use mathlib.Core.List.{List, map}
+use Prim.Native.Nat.{ℕ, _+_, _-_, _≤_, _<_}
+use native.Mathlib.Omega.{arith}
+use borrow.Author.Tests.{not-true, not-false}
+use Rattle.refusal.specs.Checks.{every}
+use Rattle.refusal.proofs.Laws.{every-append}
+use Rattle.submission_reader.specs.declared.Certificate.{Certificate as Numbers}
+use Rattle.submission_reader.specs.declared.Reading.the-variants.{Read, Refused}
+use Rattle.submission_reader.specs.declared.Commit.{Commit}
+use Rattle.submission_commit.specs.declared.CommitPart.the-variants.{Found, Absent}
+use Rattle.submission.specs.Trailer.{leaderCount}
+use Rattle.submission.specs.View.{Certificate}
+use Rattle.submission.specs.Reading.{ballotSize, signersAt, certificateAt, certificateEnd, certificates, certificatesEnd, commitAt, leadersFrom, commitOf, view}
+use Rattle.submission_reader.specs.Reader.{numbersAt, commitNumbersAt, reading}
+use Rattle.submission_commit.specs.Commits.{commitPart}
+use Rattle.submission_quorums.specs.Signers.{leaderMasks}
+use Rattle.submission.specs.Validate.{quorate, commitSigners, masks}
+use Rattle.submission_commit.proofs.Commits.{absent-says, found-says}
+use Rattle.submission.proofs.Certificates.{certificates-from, certificates-first, end-first}
+use Rattle.submission_reader.proofs.Readings.{refused-passes, read-says}
+
+-- ---- the leader certificates that are left, and whose answer is b
+
+masks-first : (S : ℕ) (s : List ℕ) (n left at : ℕ) → 0 < left
+    → every (quorate n) (leaderMasks S s left at)
+    ≡ cond (quorate n (signersAt s (at + ballotSize 4))) (every (quorate n) (leaderMasks S s (left - 1) (certificateEnd 4 S s at))) false
+unfolding leaderMasks certificateAt every
+masks-first S s n left at more =
+    ap (λ (cs : List Certificate). every (quorate n) (map (λ c. c .signers) cs)) (certificates-first 4 S s left at more)
+
+module _ (S : ℕ) (s : List ℕ) (n left at end : ℕ) {b : Bool} (rest : every (quorate n) (leaderMasks S s left at) ≡ b) where
+  module _ (more : 0 < left) (inside : certificatesEnd 4 S s left at ≤ end) where
+    pub never-refused : reading S s at end ≡ Refused → false ≡ b
+    never-refused e =
+        let first = end-first 4 S s left at more in
+        absurd (omega (arith, refused-passes S s at end e, certificates-from 4 S s (left - 1) (certificateEnd 4 S s at)))
+
+    module _ {c : Numbers} {next : ℕ} (told : reading S s at end ≡ Read c next) {r : Bool} (asked : r ≡ quorate n (c .signers)) where
+      first-mask : cond r (every (quorate n) (leaderMasks S s (left - 1) next)) false ≡ b
+      unfolding numbersAt
+      first-mask =
+          let says = read-says S s at end told in
+          rw (asked, says .0, says .1) (sym (masks-first S s n left at more) ∙ rest)
+
+      pub too-few : not r ≡ true → false ≡ b
+      too-few e = rw (not-true r e) at first-mask
+
+      pub enough : not r ≡ false
+          → (certificatesEnd 4 S s (left - 1) next ≤ end) × (every (quorate n) (leaderMasks S s (left - 1) next) ≡ b)
+      enough e =
+          let says = read-says S s at end told in
+          (rw (says .1, ← end-first 4 S s left at more) inside, rw (not-false r e) at first-mask)
+
+  pub all-enough : left ≤ 0 → true ≡ b
+  unfolding leaderMasks certificates every
+  all-enough h = let none-left : left ≡ 0 = omega arith in rw none-left at rest
+
+-- ---- every certificate
+
+module _ (S : ℕ) (s : List ℕ) (n : ℕ) where
+  pub commit-signers : {c : Commit} {at : ℕ} → commitPart S s ≡ Found c at → quorate n (c .signers) ≡ every (quorate n) (commitSigners (commitOf 4 S s))
+  unfolding commitSigners commitNumbersAt every
+  commit-signers {c} {at} e =
+      let says = found-says S s e in
+      rw (says .2, says .0) (one (quorate n (commitAt s at .signers)))
+    where
+      one : (b : Bool) → b ≡ cond b true false
+      one true = refl
+      one false = refl
+
+  pub no-signers : commitPart S s ≡ Absent → true ≡ every (quorate n) (commitSigners (commitOf 4 S s))
+  unfolding commitSigners every
+  no-signers e = rw (absent-says S s e)
+
+  all-masks : every (quorate n) (masks (view 4 S s))
+      ≡ cond (every (quorate n) (leaderMasks S s (leaderCount s) (leadersFrom 4 S s))) (every (quorate n) (commitSigners (commitOf 4 S s))) false
+  unfolding masks view leaderMasks
+  all-masks = every-append (quorate n) _ _
+
+  pub leaders-fail : every (quorate n) (leaderMasks S s (leaderCount s) (leadersFrom 4 S s)) ≡ false → false ≡ every (quorate n) (masks (view 4 S s))
+  leaders-fail e = sym (rw e at all-masks)
+
+  pub leaders-hold : every (quorate n) (leaderMasks S s (leaderCount s) (leadersFrom 4 S s)) ≡ true
+      → every (quorate n) (commitSigners (commitOf 4 S s)) ≡ every (quorate n) (masks (view 4 S s))
+  leaders-hold e = sym (rw e at all-masks)

@@ -1,0 +1,69 @@
+// The signers of certificates (document 01, "What stops an audit", 10), for version 1: terms of 4 bytes.
+ghost use mathlib.Core.Path.{_≡_};
+ghost use mathlib.Core.Bool.{true};
+ghost use Prim.Native.Nat.{_≤_, _<_};
+ghost use lib.ListN.{length};
+ghost use Rattle.refusal.specs.Checks.{every};
+ghost use Rattle.submission.specs.Reading.{certificatesEnd, commitOf, view, laidOut};
+ghost use Rattle.submission_reader.specs.Reader.{signatureMost};
+ghost use Rattle.submission_layout.specs.Parts.{Bounds};
+ghost use Rattle.submission_quorums.specs.Signers.{leaderMasks};
+ghost use Rattle.submission.specs.Validate as paper;
+use submission_commit::CommitPart;
+use submission_reader::Reading;
+
+// Whether a mask has a quorum of n boards, and no bit above board n.
+pub fn quorate(n: usize, mask: u16) -> bool
+    requires { ⌜ (0 < n) × (n ≤ 9) ⌝ }
+    ensures { λ r. ⌜ r ≡ paper.quorate n mask ⌝ }
+{
+    if u16::count_ones(mask) < roster::quorum(n) {
+        return false;
+    }
+    (mask as u32) < 1 << n
+}
+
+// Whether the signers of so many leader certificates from a place on are so. All of them lie before `end`, so that no reading is refused.
+fn leaders_quorate(s: &[u8], n: usize, count: usize, from: usize, end: usize, size: usize) -> bool
+    requires { ⌜ (0 < n) × (n ≤ 9) × (end ≤ length (now s)) × (length (now s) ≤ paper.submissionMost) × (size ≤ signatureMost)
+        × (certificatesEnd 4 size (now s) count from ≤ end) ⌝ }
+    ensures { λ r. ⌜ r ≡ every (paper.quorate n) (leaderMasks size (now (s .entry)) count from) ⌝ }
+{
+    let mut at = from;
+    let mut left = count;
+    while 0 < left {
+        let Reading::Read(c, next) = submission_reader::read(s, at, end, size) else {
+            return false;
+        };
+        if !quorate(n, c.signers) {
+            return false;
+        }
+        at = next;
+        left -= 1;
+    }
+    true
+}
+
+// Whether the commit certificate's signers are so, where there is one.
+fn commit_quorate(s: &[u8], n: usize, size: usize) -> bool
+    requires { ⌜ (0 < n) × (n ≤ 9) × Bounds size (now s) × (laidOut 4 size (now s) ≡ true) ⌝ }
+    ensures { λ r. ⌜ r ≡ every (paper.quorate n) (paper.commitSigners (commitOf 4 size (now (s .entry)))) ⌝ }
+{
+    let CommitPart::Found(commit, _) = submission_commit::commit_part(s, size) else {
+        return true;
+    };
+    quorate(n, commit.signers)
+}
+
+// 10: whether the signers of every certificate are so.
+pub fn all_quorate(s: &[u8], n: usize, size: usize) -> bool
+    requires { ⌜ (0 < n) × (n ≤ 9) × Bounds size (now s) × (laidOut 4 size (now s) ≡ true) ⌝ }
+    ensures { λ r. ⌜ r ≡ every (paper.quorate n) (paper.masks (view 4 size (now (s .entry)))) ⌝ }
+{
+    let end = submission_trailer::trailer_at(s);
+    let from = submission_layout::leaders_from(s);
+    if !leaders_quorate(s, n, submission_trailer::leader_count(s), from, end, size) {
+        return false;
+    }
+    commit_quorate(s, n, size)
+}

@@ -1,0 +1,93 @@
+-- Without a commit certificate there are no receipts; with one, its pointer is kept on the way to the log's end.
+-- Assumes nothing.
+use mathlib.Core.Path.{sym, _∙_}
+use native.Mathlib.Nat.{le-trans}
+use native.Mathlib.Omega.{arith}
+use borrow.Author.Needs.{needs}
+use borrow.Author.Tests.{not-true, not-false}
+use Rattle.submission.specs.Reading.{recordsOf, commitAt, view}
+use Rattle.submission_reader.specs.Reader.{commitNumbersAt}
+use Rattle.submission_commit.proofs.Commits.{absent-says, found-says}
+use Rattle.submission_signatures.proofs.Facts.{records-in, upto-in, commit-signers, commit-within, commit-end-in}
+use Rattle.submission_signatures.proofs.Fifteen.{first-fails, second-holds, no-receipts, with-receipts}
+use Rattle.submission_signatures.proofs.places_good.Statement.{statement}
+use Rattle.submission_signatures.proofs.places_good.Tie as tie
+
+returns : tie.Need-returns
+unfolding view
+returns c =
+    let a = c .before .before .before .before .before .before .before .args in
+    let none-there = absent-says (a .size) (a .s .now) (sym (c .before .before .before .before .commit-part .ensures) ∙ c .before .before .enum-told .given .1) in
+    c .stamps-good .ensures ∙ second-holds _ (no-receipts _ (a .size) (view 4 (a .size) (a .s .now)) none-there)
+
+stamps-good-requires : tie.Need-stamps-good-requires
+unfolding recordsOf
+stamps-good-requires c κs = (c .before .before .before .before .before .before .pre, omega arith, c .pointer-zero .ensures)
+
+pointer-after-requires : tie.Need-pointer-after-requires
+unfolding commitNumbersAt commitAt recordsOf
+pointer-after-requires c κs =
+    let a = c .before .before .before .before .before .before .before .before .args in
+    let p = c .before .before .before .before .before .before .before .before .pre in
+    let laid = p .counted .laid in
+    let told = found-says (a .size) (a .s .now) (sym (c .before .before .before .before .before .commit-part .ensures) ∙ c .before .before .before .c .given .1) in
+    let w = commit-within (a .size) (a .s .now) _ (told .2) (p .commit) in
+    rw (told .0)
+    (omega arith, le-trans w (laid .bounds .records), upto-in (a .roster .now) (a .size) (a .s .now) laid _ w, c .pointer-zero2 .ensures)
+
+stamps-good-requires-2 : tie.Need-stamps-good-requires-2
+unfolding commitNumbersAt commitAt
+stamps-good-requires-2 c κs =
+    let a = c .before .before .before .before .before .before .before .before .before .args in
+    let p = c .before .before .before .before .before .before .before .before .before .pre in
+    let told = found-says (a .size) (a .s .now) (sym (c .before .before .before .before .before .before .commit-part .ensures) ∙ c .before .before .before .before .c .given .1) in
+    let w = commit-within (a .size) (a .s .now) _ (told .2) (p .commit) in
+    (p, rw (told .0) w, c .pointer-after .ensures)
+
+returns-2 : tie.Need-returns-2
+returns-2 c = first-fails _ (sym (c .before .stamps-good2 .ensures) ∙ not-true _ (c .if1 .taken))
+
+receipts-good-requires : tie.Need-receipts-good-requires
+unfolding commitNumbersAt commitAt
+receipts-good-requires c κs =
+    let a = c .before .before .before .before .before .before .before .before .before .before .before .before .args in
+    let p = c .before .before .before .before .before .before .before .before .before .before .before .before .pre in
+    let laid = p .counted .laid in
+    let told = found-says (a .size) (a .s .now) (sym (c .before .before .before .before .before .before .before .before .before .commit-part .ensures) ∙ c .before .before .before .before .before .before .before .c .given .1) in
+    let w = commit-within (a .size) (a .s .now) _ (told .2) (p .commit) in
+    let pointed = rw (told .0) at (c .before .before .before .pointer-after .ensures) in
+    rw (c .record-count .ensures .0) (
+      laid .fine,
+      records-in (a .roster .now) (a .size) (a .s .now) laid,
+      commit-end-in (a .roster .now) (a .size) (a .s .now) laid _ (told .1) (told .2),
+      commit-signers (a .roster .now) (a .size) (a .s .now) laid _ (told .2),
+      w,
+      pointed,
+    )
+
+returns-3 : tie.Need-returns-3
+unfolding view
+returns-3 c =
+    let a = c .before .before .before .before .before .before .before .before .before .before .before .before .before .args in
+    let told = found-says (a .size) (a .s .now) (sym (c .before .before .before .before .before .before .before .before .before .before .commit-part .ensures) ∙ c .before .before .before .before .before .before .before .before .c .given .1) in
+    let asked = rw (c .before .record-count .ensures .0) at (c .receipts-good .ensures) in
+    with-receipts _ (a .size) (view 4 (a .size) (a .s .now)) (told .2) (sym (c .before .before .before .stamps-good2 .ensures) ∙ not-false _ (c .before .before .if1 .left)) asked
+
+pub places-good-spec : {M : Type 1} → statement M
+places-good-spec =
+    tie.close
+    (tie.spec
+    (λ c κs. let laid = c .before .before .pre .counted .laid in (laid .bounds, laid .layout))
+    (λ c. search needs)
+    (λ c. search needs)
+    (λ c κs. search needs)
+    stamps-good-requires
+    returns
+    (λ c. search needs)
+    (λ c κs. search needs)
+    pointer-after-requires
+    stamps-good-requires-2
+    returns-2
+    (λ c κs. c .before .before .before .before .before .before .before .before .before .before .before .pre .counted .laid .bounds .long)
+    receipts-good-requires
+    returns-3)

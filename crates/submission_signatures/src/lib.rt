@@ -1,0 +1,61 @@
+// Every signature of a submission (document 01, "What stops an audit", 15), for version 1: terms of 4 bytes.
+ghost use mathlib.Core.Path.{_≡_};
+ghost use mathlib.Core.Bool.{false, cond};
+ghost use mathlib.Core.List.{[], map};
+ghost use Prim.Native.Nat.{_≤_};
+ghost use Rattle.refusal.specs.Checks.{every};
+ghost use Rattle.sha256.specs.Sha256.{bytesOf};
+ghost use Rattle.log_chain.specs.Log as chain;
+ghost use Rattle.submission.specs.Trailer.{recordCount};
+ghost use Rattle.submission.specs.View.{leads, stampOf, receiptsOf, slots};
+ghost use Rattle.submission.specs.Reading.{recordsOf, view};
+ghost use Rattle.submission.specs.Validate.{genuine, formOf};
+ghost use Rattle.submission_signatures.specs.Checked.{Checked};
+use submission_commit::CommitPart;
+use sha256::State;
+use submission_certified::receipts;
+use submission_certified::votes;
+
+// Whether the stamps are good, from the pointer of record i.
+fn stamps_good(roster: &[u8], s: &[u8], size: usize, i: usize, before: State) -> bool
+    requires { ⌜ Checked (now roster) size (now s) × (i ≤ recordCount (now s)) × (bytesOf before ≡ chain.pointer (chain.version1 []) (recordsOf 4 i (now s))) ⌝ }
+    ensures { λ r. ⌜ r ≡ every (genuine (formOf (now (roster .entry))) (now (roster .entry))) (map (stampOf size) (leads (view 4 size (now (s .entry))))) ⌝ }
+{
+    let records = submission_trailer::record_count(s);
+    let end = log_pointers::pointer_after(s, i, records, before);
+    let leaders = submission_trailer::leader_count(s);
+    let from = submission_layout::leaders_from(s);
+    let stamps = submission_layout::stamps_from(s);
+    submission_stamps::stamps_good(roster, s, size, records, leaders, from, stamps, end)
+}
+
+// Whether the stamps and the receipts are good. Each record is hashed once: first up to the commit index, whose pointer the receipts have, then
+// to the log's end.
+fn places_good(roster: &[u8], s: &[u8], size: usize) -> bool
+    requires { ⌜ Checked (now roster) size (now s) ⌝ }
+    ensures { λ r. ⌜ r ≡ cond (every (genuine (formOf (now (roster .entry))) (now (roster .entry))) (map (stampOf size) (leads (view 4 size (now (s .entry))))))
+        (every (genuine (formOf (now (roster .entry))) (now (roster .entry))) (receiptsOf size (view 4 size (now (s .entry)) .commit) (view 4 size (now (s .entry)) .log))) false ⌝ }
+{
+    let CommitPart::Found(c, at) = submission_commit::commit_part(s, size) else {
+        return stamps_good(roster, s, size, 0, log_pointers::pointer_zero());
+    };
+    let index = c.index as usize;
+    let pointer = log_pointers::pointer_after(s, 0, index, log_pointers::pointer_zero());
+    if !stamps_good(roster, s, size, index, pointer) {
+        return false;
+    }
+    receipts::receipts_good(roster, s, size, submission_trailer::record_count(s), at, pointer)
+}
+
+// 15: whether every signature is good.
+pub fn all_good(roster: &[u8], s: &[u8], size: usize) -> bool
+    requires { ⌜ Checked (now roster) size (now s) ⌝ }
+    ensures { λ r. ⌜ r ≡ every (genuine (formOf (now (roster .entry))) (now (roster .entry))) (slots size (view 4 size (now (s .entry)))) ⌝ }
+{
+    let leaders = submission_trailer::leader_count(s);
+    let from = submission_layout::leaders_from(s);
+    if !votes::votes_good(roster, s, size, leaders, from) {
+        return false;
+    }
+    places_good(roster, s, size)
+}

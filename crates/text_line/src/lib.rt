@@ -1,0 +1,61 @@
+// The kinds of line that the program prints of a report (document 01, "The report").
+ghost use mathlib.Core.List.{[], _∷_, _++_};
+ghost use Prim.Native.Nat.{_+_, _≤_, _<_};
+ghost use lib.ListN.{length};
+ghost use Rattle.text_decimal.specs.Decimal.{decimal};
+ghost use Rattle.text_decimal.specs.Put.{Put};
+ghost use Rattle.text_line.specs.Texts.{refusalLine, forkLine, boardLine};
+
+// Puts a word and a number.
+fn put_field(out: &mut [u8], at: usize, word: &[u8], x: u32) -> usize
+    requires { ⌜ at + length (now word) + 10 ≤ length (now out) ⌝ }
+    ensures { λ r. ⌜ Put (now (out .entry)) (now (out .exit)) at r (now (word .entry) ++ decimal x) (length (now (word .entry)) + 10) ⌝ }
+{
+    words::put_bytes(out, at, word);
+    text_decimal::put_decimal(out, at + word.len(), x)
+}
+
+// Puts a line feed.
+fn put_end(out: &mut [u8], at: usize) -> usize
+    requires { ⌜ at < length (now out) ⌝ }
+    ensures { λ r. ⌜ Put (now (out .entry)) (now (out .exit)) at r (10 ∷ []) 1 ⌝ }
+{
+    out[at] = b'\n';
+    at + 1
+}
+
+// Puts a word and a number, the last of a line.
+fn put_last(out: &mut [u8], at: usize, word: &[u8], x: u32) -> usize
+    requires { ⌜ at + length (now word) + 11 ≤ length (now out) ⌝ }
+    ensures { λ r. ⌜ Put (now (out .entry)) (now (out .exit)) at r ((now (word .entry) ++ decimal x) ++ (10 ∷ [])) (length (now (word .entry)) + 10 + 1) ⌝ }
+{
+    let next = put_field(out, at, word, x);
+    put_end(out, next)
+}
+
+// Puts the line of number and where.
+pub fn put_refusal(out: &mut [u8], at: usize, number: u32, side: u32) -> usize
+    requires { ⌜ at + 33 ≤ length (now out) ⌝ }
+    ensures { λ r. ⌜ Put (now (out .entry)) (now (out .exit)) at r (refusalLine number side) 33 ⌝ }
+{
+    let next = put_field(out, at, b"refusal ", number);
+    put_last(out, next, b" in ", side)
+}
+
+// Puts the line of the fork index.
+pub fn put_fork(out: &mut [u8], at: usize, index: u32) -> usize
+    requires { ⌜ at + 16 ≤ length (now out) ⌝ }
+    ensures { λ r. ⌜ Put (now (out .entry)) (now (out .exit)) at r (forkLine index) 16 ⌝ }
+{
+    put_last(out, at, b"fork ", index)
+}
+
+// Puts a board's line.
+pub fn put_board(out: &mut [u8], at: usize, board: u32, rule: u32, term: u32) -> usize
+    requires { ⌜ at + 49 ≤ length (now out) ⌝ }
+    ensures { λ r. ⌜ Put (now (out .entry)) (now (out .exit)) at r (boardLine board rule term) 49 ⌝ }
+{
+    let second = put_field(out, at, b"board ", board);
+    let third = put_field(out, second, b" rule ", rule);
+    put_last(out, third, b" term ", term)
+}
