@@ -19,7 +19,12 @@ fn found(a: &[u8], b: &[u8], size: usize) -> Findings
         × Bounds size (now b) × (laidOut 4 size (now b) ≡ true) × (within (view 4 size (now b) .commit) (length (view 4 size (now b) .log)) ≡ true) ⌝ }
     ensures { λ r. ⌜ paper.findingsOf r ≡ read size (now (a .entry)) (now (b .entry)) ⌝ }
 {
-    let difference = log_difference::difference(a, b, submission_trailer::record_count(a), submission_trailer::record_count(b));
+    let difference = log_difference::difference(
+        a,
+        b,
+        submission_trailer::record_count(a),
+        submission_trailer::record_count(b),
+    );
     let first = forensics_tenures::receipts_of(a, size);
     let second = forensics_tenures::receipts_of(b, size);
     Findings {

@@ -11,10 +11,10 @@ ghost use Rattle.submission_layout.specs.Parts.{Bounds};
 ghost use Rattle.forensics_charges.specs.Charges.{receipts};
 ghost use Rattle.forensics_tenures.specs.Tenures as paper;
 use forensics_charges::Receipts;
-use submission_commit::CommitPart;
 use forensics_rules::Receipt;
 use forensics_rules::Tenure;
 use submission::LAST_INDEX_AT;
+use submission_commit::CommitPart;
 
 // The last record of the term before a place, with so many leader certificates from there on.
 fn end_at(s: &[u8], later: usize, next: usize) -> u32

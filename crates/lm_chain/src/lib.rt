@@ -8,10 +8,10 @@ ghost use Rattle.lm_hash.specs.Identifier.{identifier};
 ghost use Rattle.sha256_lanes.specs.Lane.{Lane, lane, state};
 ghost use Rattle.lm_chain_blocks.specs.Block.{stepBlock};
 ghost use Rattle.lm_chain.specs.Chain.{stepped, chain};
-use sha256_lane_words::Lanes;
-use sha256_lanes::Four;
 use lm_hash::Leaf;
 use sha256::State;
+use sha256_lane_words::Lanes;
+use sha256_lanes::Four;
 use sha256_tables::K;
 
 // Step j of chain i.

@@ -9,10 +9,10 @@ ghost use Prim.Native.Nat.{ℕ, _<_};
 ghost use lib.ListN.{length, getD};
 ghost use Rattle.sha256_lanes.specs.Lane.{Lane, lane, state, wordIn, changed};
 ghost use Rattle.lm_chain_blocks.specs.Block.{stepBlock, firstWord, acrossWord, lastWord};
-use sha256_lane_words::Lanes;
-use sha256_lanes::Four;
 use lm_hash::Leaf;
 use sha256::State;
+use sha256_lane_words::Lanes;
+use sha256_lanes::Four;
 
 // ---- words of a block
 

@@ -8,9 +8,9 @@ ghost use Rattle.lm_hash.specs.Identifier.{identifier};
 ghost use Rattle.lm_chain.specs.Chain.{chain};
 ghost use Rattle.lm_chain_values.specs.Values.{valueAt};
 ghost use Rattle.lm_chain_turns.specs.Ahead.{ahead};
+use lm_hash::Leaf;
 use sha256_lane_words::Lanes;
 use sha256_lanes::Four;
-use lm_hash::Leaf;
 
 // Makes the next steps of four chains others.
 fn put_steps(steps: &mut [u32], i0: usize, i1: usize, i2: usize, i3: usize, j: Lanes)

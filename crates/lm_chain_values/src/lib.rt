@@ -5,8 +5,8 @@ ghost use lib.ListN.{length, take, drop};
 ghost use Rattle.sha256.specs.Sha256.{bytesOf};
 ghost use Rattle.sha256_lanes.specs.Lane.{Lane, pick, state, changed};
 ghost use Rattle.lm_chain_values.specs.Values.{valueAt};
-use sha256_lanes::Four;
 use sha256::State;
+use sha256_lanes::Four;
 
 // The value of chain i.
 pub fn value_at(v: &[u32], i: usize) -> State

@@ -8,9 +8,9 @@ ghost use Rattle.sha256_tables.specs.Constants.{constants};
 ghost use Rattle.sha256.specs.Sha256 as fips;
 ghost use Rattle.sha256.specs.Sha256.{_⊞_, σ₀, σ₁};
 ghost use Rattle.sha256_lanes.specs.Lane.{Lane, pick, lane, state, wordIn, changed};
+use sha256::State;
 use sha256_lane_words::Lanes;
 use sha256_lane_words::functions::round;
-use sha256::State;
 
 // A hash value in each lane.
 pub struct Four(pub State, pub State, pub State, pub State);

@@ -9,9 +9,9 @@ ghost use Rattle.submission.specs.Reading as paper;
 ghost use Rattle.submission_reader.specs.Reader.{signatureMost};
 ghost use Rattle.submission_layout.specs.Parts.{Bounds, commitTests, leaderTests};
 ghost use Rattle.submission.specs.Validate.{submissionMost, recordMost, leaderMost};
+use submission::RECORD_SIZE;
 use submission_reader::CommitReading;
 use submission_reader::Place;
-use submission::RECORD_SIZE;
 
 // Whether part 4, which begins at a place, stands where its distance says and ends at the trailer.
 fn commit_stands(s: &[u8], from: usize, size: usize) -> bool

@@ -11,10 +11,10 @@ ghost use Rattle.submission.specs.View.{leads, stampOf, receiptsOf, slots};
 ghost use Rattle.submission.specs.Reading.{recordsOf, view};
 ghost use Rattle.submission.specs.Validate.{genuine, formOf};
 ghost use Rattle.submission_signatures.specs.Checked.{Checked};
-use submission_commit::CommitPart;
 use sha256::State;
 use submission_certified::receipts;
 use submission_certified::votes;
+use submission_commit::CommitPart;
 
 // Whether the stamps are good, from the pointer of record i.
 fn stamps_good(roster: &[u8], s: &[u8], size: usize, i: usize, before: State) -> bool
@@ -44,7 +44,14 @@ fn places_good(roster: &[u8], s: &[u8], size: usize) -> bool
     if !stamps_good(roster, s, size, index, pointer) {
         return false;
     }
-    receipts::receipts_good(roster, s, size, submission_trailer::record_count(s), at, pointer)
+    receipts::receipts_good(
+        roster,
+        s,
+        size,
+        submission_trailer::record_count(s),
+        at,
+        pointer,
+    )
 }
 
 // 15: whether every signature is good.
