@@ -57,7 +57,7 @@ module _ (roster first second : List ℕ) where
   answer-of = go (eqb (rosterNumber roster) 0) (eqb (validate roster first) 0) (eqb (validate roster second) 0)
     where
       go : (x y z : Bool)
-          → cond x (cond y (cond z (record { number = 0; side = 0; findings = findings (signatureSize roster) (viewOf roster first) (viewOf roster second) }) (refused (validate roster second) 2)) (refused (validate roster first) 1)) (refused (rosterNumber roster) 0)
+          → cond x (cond y (cond z (record { number = 0; place = 0; findings = findings (signatureSize roster) (viewOf roster first) (viewOf roster second) }) (refused (validate roster second) 2)) (refused (validate roster first) 1)) (refused (rosterNumber roster) 0)
           ≡ answerOf (cond x (cond y (cond z Accepted (Refused (validate roster second) 2)) (Refused (validate roster first) 1)) (Refused (rosterNumber roster) 0))
           (findings (signatureSize roster) (viewOf roster first) (viewOf roster second))
       go true true true = refl

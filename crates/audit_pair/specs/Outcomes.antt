@@ -19,5 +19,5 @@ outcome roster first second =
 
 -- the answer of each case, where the accepted submissions show some findings
 unfoldable pub answerOf : Outcome → Findings → Answer
-answerOf Accepted findings = record { number = 0; side = 0; findings = findings }
-answerOf (Refused number side) findings = refused number side
+answerOf Accepted findings = record { number = 0; place = 0; findings = findings }
+answerOf (Refused number place) findings = refused number place

@@ -7,7 +7,7 @@ ghost use Rattle.roster.specs.Roster.{signatureSize};
 ghost use Rattle.submission.specs.Validate.{viewOf};
 ghost use Rattle.forensics.specs.Findings.{findings};
 ghost use Rattle.report.specs.Report.{reportSize, reportBytes, auditNumber, reportAfter};
-ghost use Rattle.audit_pair.specs.Outcomes as paper;
+ghost use Rattle.audit_pair.specs.Outcomes as inner;
 
 // The bytes of a report.
 const REPORT_SIZE: usize = 53;
@@ -20,7 +20,7 @@ pub enum Outcome {
 
 // The roster first, then the first submission, then the second.
 pub fn validate(roster: &[u8], first: &[u8], second: &[u8]) -> Outcome
-    ensures { λ r. ⌜ r ≡ paper.outcome (now (roster .entry)) (now (first .entry)) (now (second .entry)) ⌝ }
+    ensures { λ r. ⌜ r ≡ inner.outcome (now (roster .entry)) (now (first .entry)) (now (second .entry)) ⌝ }
 {
     let number = roster_checks::validate(roster);
     if number != 0 {
@@ -40,17 +40,17 @@ pub fn validate(roster: &[u8], first: &[u8], second: &[u8]) -> Outcome
 // Writes the report of the outcome to a buffer that is long enough, and gives the number.
 fn write(roster: &[u8], first: &[u8], second: &[u8], report: &mut [u8]) -> u32
     requires { ⌜ reportSize ≤ length (now report) ⌝ }
-    ensures number { λ r. ⌜ r ≡ paper.answerOf (paper.outcome (now (roster .entry)) (now (first .entry)) (now (second .entry)))
+    ensures number { λ r. ⌜ r ≡ inner.answerOf (inner.outcome (now (roster .entry)) (now (first .entry)) (now (second .entry)))
         (findings (signatureSize (now (roster .entry))) (viewOf (now (roster .entry)) (now (first .entry))) (viewOf (now (roster .entry)) (now (second .entry)))) .number ⌝ }
-    ensures bytes { λ _. ⌜ now (report .exit) ≡ reportBytes (paper.answerOf (paper.outcome (now (roster .entry)) (now (first .entry)) (now (second .entry)))
+    ensures bytes { λ _. ⌜ now (report .exit) ≡ reportBytes (inner.answerOf (inner.outcome (now (roster .entry)) (now (first .entry)) (now (second .entry)))
         (findings (signatureSize (now (roster .entry))) (viewOf (now (roster .entry)) (now (first .entry))) (viewOf (now (roster .entry)) (now (second .entry)))))
         ++ drop reportSize (now (report .entry)) ⌝ }
 {
-    let Outcome::Refused(number, side) = validate(roster, first, second) else {
+    let Outcome::Refused(number, place) = validate(roster, first, second) else {
         let found = forensics_find::find(roster, first, second);
         return report_bytes::write_accepted(report, found);
     };
-    report_bytes::write_refused(report, number, side)
+    report_bytes::write_refused(report, number, place)
 }
 
 // The audit: 1 and nothing written where the report buffer is below 53 bytes, otherwise the number, with the report in the first 53 bytes.

@@ -1,4 +1,4 @@
--- Two accepted submissions whose committed records differ name a board. In one term the two leaders are two candidates of two quorums, or one
+-- Two accepted submissions whose committed records differ name a replica. In one term the two leaders are two candidates of two quorums, or one
 -- candidate that stamped both logs; in two terms the later submission's first leader above the earlier commit stood on a staler log than
 -- that commit's quorum received, or its own log before it leads back to the first case.
 -- Assumes nothing.
@@ -29,7 +29,7 @@ use Rattle.submission.proofs.Slots.{mem-flatMap, Stands, Led, led, Settled, set
 use Rattle.forensics.specs.Findings.{says, charges}
 use Rattle.forensics.proofs.Agree.{agree-sym, agree-nil, differ-within}
 
--- some board breaks the stamp rule, or every board common to two quorums is named: cited to count how many boards are named
+-- some replica breaks the stamp rule, or every replica common to two quorums is named: cited to count how many replicas are named
 pub data Blame (n : ℕ) (xs ys : List Slot) : Type 0 where
   stamper : (k t : ℕ) → 0 < k → k ≤ n → List·Memᴰ (record { rule = 2; term = t }) (charges k xs ys) → Blame n xs ys
   common : (a b : ℕ) → quorate n a ≡ true → quorate n b ≡ true
@@ -37,24 +37,24 @@ pub data Blame (n : ℕ) (xs ys : List Slot) : Type 0 where
 
 -- ---- from statements to charges
 
-says-mem : (k : ℕ) (c : Claim) (xs : List Slot) (x : Slot) → List·Memᴰ x xs → x .board ≡ k → x .claim ≡ c → List·Memᴰ c (says k xs)
+says-mem : (k : ℕ) (c : Claim) (xs : List Slot) (x : Slot) → List·Memᴰ x xs → x .replica ≡ k → x .claim ≡ c → List·Memᴰ c (says k xs)
 unfolding says
 says-mem k c [] x m e d = absurd (List·Memᴰ·not-nil m)
-says-mem k c (y ∷ xs) x m e d = go (look (eqb (y .board) k)) (List·Memᴰ·cases-cons m) (λ h. says-mem k c xs x h e d)
+says-mem k c (y ∷ xs) x m e d = go (look (eqb (y .replica) k)) (List·Memᴰ·cases-cons m) (λ h. says-mem k c xs x h e d)
   where
-    go : (eqb (y .board) k ≡ true) ⊎ (eqb (y .board) k ≡ false) → (x ≡ y) ⊎ List·Memᴰ x xs → (List·Memᴰ x xs → List·Memᴰ c (says k xs))
-        → List·Memᴰ c (cond (eqb (y .board) k) (y .claim ∷ says k xs) (says k xs))
+    go : (eqb (y .replica) k ≡ true) ⊎ (eqb (y .replica) k ≡ false) → (x ≡ y) ⊎ List·Memᴰ x xs → (List·Memᴰ x xs → List·Memᴰ c (says k xs))
+        → List·Memᴰ c (cond (eqb (y .replica) k) (y .claim ∷ says k xs) (says k xs))
     go (inl t) (inl h) later = rw t (List·Memᴰ·head (sym d ∙ ap (λ z. z .claim) h))
     go (inl t) (inr h) later = rw t (List·Memᴰ·tail (later h))
-    go (inr t) (inl h) later = absurd (eqb-false _ _ t (ap (λ z. z .board) (sym h) ∙ e))
+    go (inr t) (inl h) later = absurd (eqb-false _ _ t (ap (λ z. z .replica) (sym h) ∙ e))
     go (inr t) (inr h) later = rw t (later h)
 
 charged : (k : ℕ) (c d : Claim) (xs ys : List Slot) → Stands xs k c → Stands ys k d → (x : Charge) → List·Memᴰ x (clash c d)
     → List·Memᴰ x (charges k xs ys)
 unfolding charges
 charged k c d xs ys s t x m =
-    mem-flatMap (λ z. flatMap (clash z) (says k ys)) (says-mem k c xs (s .entry) (s .member) (s .board) (s .claim))
-    (mem-flatMap (clash c) (says-mem k d ys (t .entry) (t .member) (t .board) (t .claim)) m)
+    mem-flatMap (λ z. flatMap (clash z) (says k ys)) (says-mem k c xs (s .entry) (s .member) (s .replica) (s .claim))
+    (mem-flatMap (clash c) (says-mem k d ys (t .entry) (t .member) (t .replica) (t .claim)) m)
 
 charge-mem : (b : Bool) (rule term : ℕ) → b ≡ true → List·Memᴰ (record { rule = rule; term = term }) (charge b rule term)
 unfolding charge
@@ -177,7 +177,7 @@ blame form n S small a b soundA soundB differ =
     backward (earlier form n S small b a soundB soundA y x (agree-sym (committed b) (committed a) ∙ differ) (omega (arith, leb-false t u e))))
     (look (leb t u))
 
--- some board is named
+-- some replica is named
 pub named : {n : ℕ} {xs ys : List Slot} → Blame n xs ys → 0 < n → (k : ℕ) × (0 < k) × (k ≤ n) × (c : Charge) × List·Memᴰ c (charges k xs ys)
 named (stamper k t p h m) pos = (k, p, h, record { rule = 2; term = t }, m)
 named {n} (common a b qa qb every) pos =

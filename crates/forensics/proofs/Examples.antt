@@ -7,7 +7,7 @@ use mathlib.Core.Option.{Option, some, none}
 use Prim.Native.Nat.{ℕ}
 use lib.ListN.{replicate}
 use Rattle.words.specs.BigEndian.{same}
-use Rattle.roster.specs.Masks.{boardsFrom, boardsOf}
+use Rattle.roster.specs.Masks.{replicasFrom, replicasOf}
 use Rattle.log_chain.specs.Log.{Record, termFrom, lastTerm}
 use Rattle.replica.specs.Ends.{staler}
 use Rattle.replica.specs.Charges.{Charge, charge, clash, twoVotes, twoStamps, staleVote, agree, sameRecord}
@@ -34,17 +34,17 @@ without log leaders = record { log = log; leaders = leaders; stamps = map (λ (c
 row : ℕ → ℕ → Option Charge
 row rule term = some (record { rule = rule; term = term })
 
--- what is found: the fork, and the rows of boards 1 to 3; boards 4 to 9 have none
+-- what is found: the fork, and the rows of replicas 1 to 3; replicas 4 to 9 have none
 found : ℕ → Option Charge → Option Charge → Option Charge → Findings
 found i x y z = record { fork = i; rows = x ∷ y ∷ z ∷ replicate 6 none }
 
--- ---- document 01's forks, with three boards
+-- ---- document 01's forks, with three replicas
 
 -- one leader, two records of term 1: `fork 1`, `board 1 rule 2 term 1`
 one-leader : findings 0 (with-commit (of 1 1 ∷ []) (elected 1 1 0 0 0b011 ∷ []) 1 0b011) (with-commit (of 1 2 ∷ []) (elected 1 1 0 0 0b011 ∷ []) 1 0b101)
     ≡ found 1 (row 2 1) none none
-unfolding findings found row with-commit elected of fork committed committedBy differAt slots leads leadsOf runs runsAfter runsFrom run votesOf stampOf receiptsOf certified slot boardsOf
-    boardsFrom lastTerm termFrom flatMap rowsFrom charges says clash charge twoVotes twoStamps staleVote staler agree sameRecord same lowest lower sooner
+unfolding findings found row with-commit elected of fork committed committedBy differAt slots leads leadsOf runs runsAfter runsFrom run votesOf stampOf receiptsOf certified slot replicasOf
+    replicasFrom lastTerm termFrom flatMap rowsFrom charges says clash charge twoVotes twoStamps staleVote staler agree sameRecord same lowest lower sooner
 one-leader = refl
 
 first-log : View
@@ -53,11 +53,11 @@ first-log = with-commit (of 1 1 ∷ []) (elected 1 1 0 0 0b011 ∷ []) 1 0b011
 second-log : View
 second-log = with-commit (of 2 2 ∷ []) (elected 3 2 0 0 0b110 ∷ []) 1 0b110
 
--- a leader elected on an empty log after a commit: `fork 1`, `board 2 rule 3 term 2`; exchanged, rule 4. Of the two quorums only board 2
+-- a leader elected on an empty log after a commit: `fork 1`, `board 2 rule 3 term 2`; exchanged, rule 4. Of the two quorums only replica 2
 -- signed both certificates, and nobody else is charged
 stale-leader : (findings 0 first-log second-log ≡ found 1 none (row 3 2) none) × (findings 0 second-log first-log ≡ found 1 none (row 4 2) none)
 unfolding findings found row first-log second-log with-commit elected of fork committed committedBy differAt slots leads leadsOf runs runsAfter runsFrom run votesOf stampOf receiptsOf certified
-    slot boardsOf boardsFrom lastTerm termFrom flatMap rowsFrom charges says clash charge twoVotes twoStamps staleVote staler agree sameRecord same lowest lower sooner
+    slot replicasOf replicasFrom lastTerm termFrom flatMap rowsFrom charges says clash charge twoVotes twoStamps staleVote staler agree sameRecord same lowest lower sooner
 stale-leader = (refl, refl)
 
 -- ---- faults that a bench would miss: nobody is charged
@@ -65,22 +65,22 @@ stale-leader = (refl, refl)
 -- a log that is a beginning of the other, so that the last stamps' pointers differ
 beginning : findings 0 (with-commit (of 1 1 ∷ []) (elected 1 1 0 0 0b011 ∷ []) 1 0b011) (with-commit (of 1 1 ∷ of 1 2 ∷ []) (elected 1 1 0 0 0b011 ∷ []) 2 0b011)
     ≡ found 0 none none none
-unfolding findings found with-commit elected of fork committed committedBy differAt slots leads leadsOf runs runsAfter runsFrom run votesOf stampOf receiptsOf certified slot boardsOf
-    boardsFrom lastTerm termFrom flatMap rowsFrom charges says clash charge twoVotes twoStamps staleVote staler agree sameRecord same lowest lower sooner
+unfolding findings found with-commit elected of fork committed committedBy differAt slots leads leadsOf runs runsAfter runsFrom run votesOf stampOf receiptsOf certified slot replicasOf
+    replicasFrom lastTerm termFrom flatMap rowsFrom charges says clash charge twoVotes twoStamps staleVote staler agree sameRecord same lowest lower sooner
 beginning = refl
 
--- term before index: board 2 gave a receipt for (1, 2) and voted on (2, 1), whose index is lower and whose term is higher, and is not charged. Board
+-- term before index: replica 2 gave a receipt for (1, 2) and voted on (2, 1), whose index is lower and whose term is higher, and is not charged. Replica
 -- 1 voted on the empty log after its receipt, and is
 term-first : findings 0 (with-commit (of 1 1 ∷ of 1 2 ∷ []) (elected 1 1 0 0 0b011 ∷ []) 2 0b011) (without (of 2 1 ∷ of 3 1 ∷ []) (elected 3 2 0 0 0b101 ∷ elected 3 3 2 1 0b110 ∷ []))
     ≡ found 0 (row 3 2) none none
-unfolding findings found row with-commit without elected of fork committed committedBy differAt slots leads leadsOf runs runsAfter runsFrom run votesOf stampOf receiptsOf certified slot boardsOf
-    boardsFrom lastTerm termFrom flatMap rowsFrom charges says clash charge twoVotes twoStamps staleVote staler agree sameRecord same lowest lower sooner
+unfolding findings found row with-commit without elected of fork committed committedBy differAt slots leads leadsOf runs runsAfter runsFrom run votesOf stampOf receiptsOf certified slot replicasOf
+    replicasFrom lastTerm termFrom flatMap rowsFrom charges says clash charge twoVotes twoStamps staleVote staler agree sameRecord same lowest lower sooner
 term-first = refl
 
 -- one leader's stamps in two different terms, on different logs
 two-terms : findings 0 (without (of 1 1 ∷ []) (elected 1 1 0 0 0b011 ∷ [])) (without (of 2 2 ∷ []) (elected 1 2 0 0 0b011 ∷ [])) ≡ found 0 none none none
-unfolding findings found without elected of fork committed committedBy differAt slots leads leadsOf runs runsAfter runsFrom run votesOf stampOf receiptsOf certified slot boardsOf
-    boardsFrom lastTerm termFrom flatMap rowsFrom charges says clash charge twoVotes twoStamps staleVote staler agree sameRecord same lowest lower sooner
+unfolding findings found without elected of fork committed committedBy differAt slots leads leadsOf runs runsAfter runsFrom run votesOf stampOf receiptsOf certified slot replicasOf
+    replicasFrom lastTerm termFrom flatMap rowsFrom charges says clash charge twoVotes twoStamps staleVote staler agree sameRecord same lowest lower sooner
 two-terms = refl
 
 -- ---- forks and rows
@@ -99,9 +99,9 @@ rows : (let c : ℕ → ℕ → Charge = λ rule term. record { rule = rule; ter
 unfolding row lowest lower sooner staler maskOf bit
 rows = (refl, refl, refl, refl)
 
--- votes of one term for different candidates: only the board that signed both certificates is charged
+-- votes of one term for different candidates: only the replica that signed both certificates is charged
 two-candidates : findings 0 (without (of 4 1 ∷ []) (elected 1 4 0 0 0b011 ∷ [])) (without (of 4 2 ∷ []) (elected 2 4 0 0 0b110 ∷ []))
     ≡ found 0 none (row 1 4) none
-unfolding findings found row without elected of fork committed committedBy differAt slots leads leadsOf runs runsAfter runsFrom run votesOf stampOf receiptsOf certified slot boardsOf
-    boardsFrom lastTerm termFrom flatMap rowsFrom charges says clash charge twoVotes twoStamps staleVote staler agree sameRecord same lowest lower sooner
+unfolding findings found row without elected of fork committed committedBy differAt slots leads leadsOf runs runsAfter runsFrom run votesOf stampOf receiptsOf certified slot replicasOf
+    replicasFrom lastTerm termFrom flatMap rowsFrom charges says clash charge twoVotes twoStamps staleVote staler agree sameRecord same lowest lower sooner
 two-candidates = refl

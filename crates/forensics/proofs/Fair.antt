@@ -1,4 +1,4 @@
--- A board that keeps the board rules has no charge: all that its signatures stand on was signed in its acts, where no two claims clash. That
+-- A replica that keeps the board rules has no charge: all that its signatures stand on was signed in its acts, where no two claims clash. That
 -- a claim was signed follows from its bytes, since both claims fit their fields and their chain strings are kept apart.
 -- Assumes nothing.
 use mathlib.Core.Path.{_≡_, refl, sym}
@@ -23,23 +23,23 @@ use Rattle.forensics.specs.Findings.{says, charges}
 
 -- ---- from claims to charges
 
--- what a board says stands in a slot of its own
-says-slot : (k : ℕ) (xs : List Slot) (c : Claim) → List·Memᴰ c (says k xs) → (x : Slot) × List·Memᴰ x xs × (x .board ≡ k) × (c ≡ x .claim)
+-- what a replica says stands in a slot of its own
+says-slot : (k : ℕ) (xs : List Slot) (c : Claim) → List·Memᴰ c (says k xs) → (x : Slot) × List·Memᴰ x xs × (x .replica ≡ k) × (c ≡ x .claim)
 unfolding says
 says-slot k [] c m = absurd (List·Memᴰ·not-nil m)
 says-slot k (x ∷ xs) c m =
-    let Found : Type 0 = (y : Slot) × List·Memᴰ y (x ∷ xs) × (y .board ≡ k) × (c ≡ y .claim) in
+    let Found : Type 0 = (y : Slot) × List·Memᴰ y (x ∷ xs) × (y .replica ≡ k) × (c ≡ y .claim) in
     let later : List·Memᴰ c (says k xs) → Found =
     λ h. let r = says-slot k xs c h in (r .0, List·Memᴰ·tail (r .1), r .2, r .3) in
     ⊎-elim
-    (λ h. ⊎-elim (λ (e : c ≡ x .claim). (x, List·Memᴰ·head refl, eqb-true (x .board) k (h .0), e)) later (List·Memᴰ·cases-cons (h .1)))
+    (λ h. ⊎-elim (λ (e : c ≡ x .claim). (x, List·Memᴰ·head refl, eqb-true (x .replica) k (h .0), e)) later (List·Memᴰ·cases-cons (h .1)))
     (λ h. later (h .1))
-    (mem-cond (eqb (x .board) k) (x .claim ∷ says k xs) (says k xs) c m)
+    (mem-cond (eqb (x .replica) k) (x .claim ∷ says k xs) (says k xs) c m)
 
 module _ (form : Form) (n : ℕ) where
-  -- all that board k's signatures stand on was signed in the acts
+  -- all that replica k's signatures stand on was signed in the acts
   abbrev pub Signed : ℕ → List Slot → List Act → Type 0
-  Signed k xs acts = (x : Slot) → List·Memᴰ x xs → x .board ≡ k → List·Memᴰ (x .claim) (signed first acts)
+  Signed k xs acts = (x : Slot) → List·Memᴰ x xs → x .replica ≡ k → List·Memᴰ (x .claim) (signed first acts)
 
   pub fair : (k : ℕ) (xs ys : List Slot) (acts : List Act) → keeps form n first acts ≡ true → Signed k xs acts → Signed k ys acts
       → charges k xs ys ≡ []

@@ -1,4 +1,4 @@
--- Naming, of views: where committed records differ the mask of the rows is not 0. Some board from 1 to n has a charge, and the rows reach n.
+-- Naming, of views: where committed records differ the mask of the rows is not 0. Some replica from 1 to n has a charge, and the rows reach n.
 -- Assumes nothing.
 use mathlib.Core.Path.{_≡_}
 use mathlib.Core.Bool.{false}
@@ -16,6 +16,6 @@ use Rattle.forensics.proofs.Rows.{mask-positive}
 pub naming : (form : Form) (n S : ℕ) → 0 < n → n ≤ rowCount → (a b : View) → Sound form n a → Sound form n b
     → agree (committed a) (committed b) ≡ false → 0 < maskOf (findings S a b .rows)
 unfolding findings
-naming form n S some-board fits a b soundA soundB differ =
-    let k = named (blame form n S (le-trans fits (lit≤ tt)) a b soundA soundB differ) some-board in
+naming form n S some-replica fits a b soundA soundB differ =
+    let k = named (blame form n S (le-trans fits (lit≤ tt)) a b soundA soundB differ) some-replica in
     mask-positive (slots S a) (slots S b) rowCount (k .0) (k .1) (le-trans (k .2) fits) (k .3) (k .4)

@@ -1,4 +1,4 @@
--- The mask of the rows: bit k - 1 is a one exactly where board k has a charge, and there is none above the rows.
+-- The mask of the rows: bit k - 1 is a one exactly where replica k has a charge, and there is none above the rows.
 -- Assumes nothing.
 use mathlib.Core.Path.{_≡_, refl, ap, _∙_}
 use mathlib.Core.Bool.{true, false}
@@ -18,7 +18,7 @@ use Rattle.forensics.specs.Findings.{charges, lowest, lower, rowsFrom, b
 
 -- ---- one row
 
--- a board with a charge has a row, and a one
+-- a replica with a charge has a row, and a one
 pub lowest-some : (cs : List Charge) (c : Charge) → List·Memᴰ c cs → (d : Charge) × (lowest cs ≡ some d)
 unfolding lowest
 lowest-some [] c m = absurd (List·Memᴰ·not-nil m)
@@ -51,7 +51,7 @@ mask-half : (row : Option Charge) (rest : ℕ) → (bit row + 2 * rest) / 2 ≡ 
 mask-half row rest = omega (arith, bit-small row)
 
 module _ (xs ys : List Slot) where
-  -- the bit of board k, j boards after the first row's
+  -- the bit of replica k, j replicas after the first row's
   mask-bit : (count k j : ℕ) → j < count → maskOf (rowsFrom count k xs ys) / 2 ^ j % 2 ≡ bit (lowest (charges (k + j) xs ys))
   unfolding maskOf rowsFrom
   mask-bit zero k j h = absurd (omega arith)
@@ -63,21 +63,21 @@ module _ (xs ys : List Slot) where
       let half = mask-half (lowest (charges k xs ys)) (maskOf (rowsFrom count (suc k) xs ys)) in
       ap (λ x. x % 2) (shift m j) ∙ ap (λ x. x / 2 ^ j % 2) half ∙ mask-bit count (suc k) j (omega arith) ∙ ap (λ x. bit (lowest (charges x xs ys))) place
 
-  board-bit : (count k : ℕ) → 0 < k → k ≤ count → maskOf (rowsFrom count 1 xs ys) / 2 ^ (k - 1) % 2 ≡ bit (lowest (charges k xs ys))
-  board-bit count k p h =
+  replica-bit : (count k : ℕ) → 0 < k → k ≤ count → maskOf (rowsFrom count 1 xs ys) / 2 ^ (k - 1) % 2 ≡ bit (lowest (charges k xs ys))
+  replica-bit count k p h =
       let place : 1 + (k - 1) ≡ k = omega arith in
       mask-bit count 1 (k - 1) (omega arith) ∙ ap (λ x. bit (lowest (charges x xs ys))) place
 
-  -- a board with a charge is in the mask
+  -- a replica with a charge is in the mask
   pub mask-named : (count k : ℕ) → 0 < k → k ≤ count → (c : Charge) → List·Memᴰ c (charges k xs ys) → signer (maskOf (rowsFrom count 1 xs ys)) k ≡ true
   unfolding signer
-  mask-named count k p h c m = eq-eqb _ 1 (board-bit count k p h ∙ bit-one _ c m)
+  mask-named count k p h c m = eq-eqb _ 1 (replica-bit count k p h ∙ bit-one _ c m)
 
-  -- a board without is not
+  -- a replica without is not
   pub mask-clear : (count k : ℕ) → 0 < k → k ≤ count → charges k xs ys ≡ [] → signer (maskOf (rowsFrom count 1 xs ys)) k ≡ false
   unfolding signer
-  mask-clear count k p h e = rw (board-bit count k p h ∙ bit-none (charges k xs ys) e)
+  mask-clear count k p h e = rw (replica-bit count k p h ∙ bit-none (charges k xs ys) e)
 
-  -- some board with a charge: the mask is not 0
+  -- some replica with a charge: the mask is not 0
   pub mask-positive : (count k : ℕ) → 0 < k → k ≤ count → (c : Charge) → List·Memᴰ c (charges k xs ys) → 0 < maskOf (rowsFrom count 1 xs ys)
   mask-positive count k p h c m = signer-positive _ k (mask-named count k p h c m)

@@ -1,4 +1,4 @@
--- What two submissions show (document 01, "The report"): the fork index, and for each board the charge that its row has.
+-- What two submissions show (document 01, "The report"): the fork index, and for each replica the charge that its row has.
 use mathlib.Core.Bool.{Bool, cond}
 use mathlib.Core.List.{List, [], _∷_, flatMap}
 use mathlib.Core.Option.{Option, some, none}
@@ -24,12 +24,12 @@ fork a b = differAt 1 (committed a) (committed b)
 
 -- ---- the charges
 
--- the claims that board k's signatures stand on
+-- the claims that replica k's signatures stand on
 unfoldable pub says : ℕ → List Slot → List Claim
 says k [] = []
-says k (x ∷ xs) = cond (eqb (x .board) k) (x .claim ∷ says k xs) (says k xs)
+says k (x ∷ xs) = cond (eqb (x .replica) k) (x .claim ∷ says k xs) (says k xs)
 
--- the rules that one of board k's statements from the first and one from the second submission break
+-- the rules that one of replica k's statements from the first and one from the second submission break
 unfoldable pub charges : ℕ → List Slot → List Slot → List Charge
 charges k xs ys = flatMap (λ c. flatMap (clash c) (says k ys)) (says k xs)
 
@@ -47,12 +47,12 @@ unfoldable pub lowest : List Charge → Option Charge
 lowest [] = none
 lowest (c ∷ cs) = some (lower c (lowest cs))
 
--- the rows of so many boards from board k on
+-- the rows of so many replicas from replica k on
 unfoldable pub rowsFrom : ℕ → ℕ → List Slot → List Slot → List (Option Charge)
 rowsFrom zero k xs ys = []
 rowsFrom (suc count) k xs ys = lowest (charges k xs ys) ∷ rowsFrom count (suc k) xs ys
 
--- a board is named if its row has a charge: bit k - 1 for board k
+-- a replica is named if its row has a charge: bit k - 1 for replica k
 unfoldable pub bit : Option Charge → ℕ
 bit none = 0
 bit (some c) = 1
@@ -67,7 +67,7 @@ pub record Findings : Type 0 where
   pub fork : ℕ
   pub rows : List (Option Charge)
 
--- nine rows, for boards 1 to 9
+-- nine rows, for replicas 1 to 9
 abbrev pub rowCount : ℕ
 rowCount = 9
 

@@ -1,4 +1,4 @@
--- What the four rules charge a board with, from terms and receipts (document 01, "The report"), and the meaning of a row.
+-- What the four rules charge a replica with, from terms and receipts (document 01, "The report"), and the meaning of a row.
 use mathlib.Core.Bool.{cond}
 use mathlib.Core.List.{List, [], _∷_, _++_, map, flatMap}
 use mathlib.Core.Option.{Option, some, none}
@@ -27,7 +27,7 @@ receiptsBy (some c) log =
 unfoldable pub receipts : View → Receipts
 receipts v = receiptsBy (v .commit) (v .log)
 
--- ---- the charges of the rules, for board k
+-- ---- the charges of the rules, for replica k
 
 module _ (k : ℕ) where
   -- the charges from a term of the first submission and one of the second
@@ -47,7 +47,7 @@ unfoldable pub ruledBy : ℕ → ℕ → List Tenure → List Tenure → Receipt
 ruledBy k difference xs ys first second =
     amongTerms k difference xs ys ++ afterReceipts k 3 first ys ++ afterReceipts k 4 second xs
 
--- the rows of so many boards from board k on
+-- the rows of so many replicas from replica k on
 unfoldable pub rowsBy : (ℕ → Option Charge) → ℕ → ℕ → List (Option Charge)
 rowsBy row zero k = []
 rowsBy row (suc count) k = row k ∷ rowsBy row count (suc k)

@@ -1,11 +1,11 @@
-// What the four rules charge a board with, from two terms or from a receipt and a term, as a row of the report (document 01, "The report").
+// What the four rules charge a replica with, from two terms or from a receipt and a term, as a row of the report (document 01, "The report").
 ghost use mathlib.Core.Path.{_≡_};
 ghost use mathlib.Core.List.{[]};
 ghost use Prim.Native.Nat.{_<_};
 ghost use Rattle.replica.specs.Charges.{charge};
 ghost use Rattle.forensics.specs.Findings.{lowest};
 ghost use Rattle.forensics_rules.specs.Rules.{forgotten};
-ghost use Rattle.forensics_charges.specs.Charges as paper;
+ghost use Rattle.forensics_charges.specs.Charges as inner;
 use forensics_rules::Receipt;
 use forensics_rules::Tenure;
 
@@ -15,28 +15,28 @@ pub enum Receipts {
     Absent,
 }
 
-// A row of the report: the rule and the term, both 0 for a board that is not named.
+// A row of the report: the rule and the term, both 0 for a replica that is not named.
 pub struct Row {
     pub rule: u8,
     pub term: u32,
 }
 
-// The fork index, and the rows of boards 1 to 9.
+// The fork index, and the rows of replicas 1 to 9.
 pub struct Findings {
     pub fork: u32,
     pub rows: [Row; 9],
 }
 
-// The row of a board that is not named.
+// The row of a replica that is not named.
 pub fn unnamed() -> Row
-    ensures { λ r. ⌜ paper.chargeOf r ≡ lowest [] ⌝ }
+    ensures { λ r. ⌜ inner.chargeOf r ≡ lowest [] ⌝ }
 {
     Row { rule: 0, term: 0 }
 }
 
 // The lower of two rows: the lower rule and, for that rule, the lower term.
 pub fn lower(x: Row, y: Row) -> Row
-    ensures { λ r. ⌜ paper.chargeOf r ≡ paper.least (paper.chargeOf x) (paper.chargeOf y) ⌝ }
+    ensures { λ r. ⌜ inner.chargeOf r ≡ inner.least (inner.chargeOf x) (inner.chargeOf y) ⌝ }
 {
     if x.rule == 0 {
         return y;
@@ -53,7 +53,7 @@ pub fn lower(x: Row, y: Row) -> Row
 // The row for a rule, where it is broken.
 fn charged(broken: bool, rule: u8, term: u32) -> Row
     requires { ⌜ 0 < rule ⌝ }
-    ensures { λ r. ⌜ paper.chargeOf r ≡ lowest (charge broken rule term) ⌝ }
+    ensures { λ r. ⌜ inner.chargeOf r ≡ lowest (charge broken rule term) ⌝ }
 {
     if broken {
         return Row { rule, term };
@@ -61,20 +61,20 @@ fn charged(broken: bool, rule: u8, term: u32) -> Row
     unnamed()
 }
 
-// The row of board k from a term of the first submission and one of the second: rules 1 and 2.
+// The row of replica k from a term of the first submission and one of the second: rules 1 and 2.
 pub fn between(k: usize, difference: usize, x: Tenure, y: Tenure) -> Row
     requires { ⌜ 0 < k ⌝ }
-    ensures { λ r. ⌜ paper.chargeOf r ≡ lowest (paper.between k difference x y) ⌝ }
+    ensures { λ r. ⌜ inner.chargeOf r ≡ lowest (inner.between k difference x y) ⌝ }
 {
     let votes = charged(forensics_rules::two_candidates(k, x, y), 1, x.term);
     let stamps = charged(forensics_rules::two_logs(k, difference, x, y), 2, x.term);
     lower(votes, stamps)
 }
 
-// The row of board k from a receipt of one submission and a term of the other: rule 3 or 4.
+// The row of replica k from a receipt of one submission and a term of the other: rule 3 or 4.
 pub fn after_receipt(k: usize, rule: u8, given: Receipt, y: Tenure) -> Row
     requires { ⌜ (0 < k) × (0 < rule) ⌝ }
-    ensures { λ r. ⌜ paper.chargeOf r ≡ lowest (charge (forgotten k given y) rule (y .term)) ⌝ }
+    ensures { λ r. ⌜ inner.chargeOf r ≡ lowest (charge (forgotten k given y) rule (y .term)) ⌝ }
 {
     charged(forensics_rules::forgotten(k, given, y), rule, y.term)
 }

@@ -8,7 +8,7 @@ use native.Mathlib.Omega.{arith}
 use borrow.Author.Tests.{eqb-true}
 use lib.ListN.{length}
 use Rattle.log_chain.specs.Log.{Record, version1}
-use Rattle.roster.specs.Roster.{boards, signatureSize}
+use Rattle.roster.specs.Roster.{replicas, signatureSize}
 use Rattle.submission.specs.Trailer.{recordCount, leaderCount}
 use Rattle.submission.specs.View.{Run, runs, leads, leadsOf}
 use Rattle.submission.specs.Reading.{recordsOf, certificateAt, certificateEnd, certificates, leadersFrom, view, stampsFrom}
@@ -53,7 +53,7 @@ module _ (roster s : List ℕ) (S : ℕ) where
       ∷ terms-read later next (stamp + S) (t .of .upto) (t .later) rest k)
 
 -- those of a sound submission
-pub tenures-read : (roster s : List ℕ) → Sound (formOf roster) (boards roster) (viewOf roster s)
+pub tenures-read : (roster s : List ℕ) → Sound (formOf roster) (replicas roster) (viewOf roster s)
     → tenures (viewOf roster s) ≡ tenuresOf (signatureSize roster) s
 unfolding tenures tenuresOf leads leadsFrom viewOf view oneEach formOf version1
 tenures-read roster s sound =

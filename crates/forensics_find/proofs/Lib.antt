@@ -4,5 +4,5 @@ pub mod Pairs
 pub mod Rules
 pub mod Ended
 pub mod Left
-pub mod Boards
+pub mod Replicas
 pub mod Shown

@@ -1,4 +1,4 @@
--- The charges from all pairs of what a board says in the first and in the second submission, taken apart: the lowest of them is the lowest of
+-- The charges from all pairs of what a replica says in the first and in the second submission, taken apart: the lowest of them is the lowest of
 -- the votes with the votes, the stamps with the stamps, the receipts with the votes and the votes with the receipts. No other two claims clash.
 -- Assumes nothing.
 use mathlib.Core.Path.{_≡_, refl, sym, ap, _∙_}
@@ -129,7 +129,7 @@ module _ (v s g v' s' g' : List Claim) (votes : Votes v) (stamps : Stamps s) (gi
           ap (λ z. least z c) (least-assoc a d b ∙ ap (least a) (least-comm d b) ∙ sym (least-assoc a b d))
           ∙ least-assoc (least a b) d c ∙ ap (least (least a b)) (least-comm d c) ∙ sym (least-assoc (least a b) c d)
 
--- ---- what a board says is of three kinds
+-- ---- what a replica says is of three kinds
 
 said-one : (b : Bool) (c d : Claim) → List·Memᴰ d (saidIf b c) → d ≡ c
 unfolding saidIf

@@ -1,4 +1,4 @@
--- The lowest charge of a board from its signatures is the lowest that the four rules give over the numbers of the two submissions. Each kind of
+-- The lowest charge of a replica from its signatures is the lowest that the four rules give over the numbers of the two submissions. Each kind of
 -- pair is one rule: check 13 says that a certificate's term is its term's in the log, check 14 that the commit's index is within it, and a
 -- term's last record ends a beginning of the log.
 -- Assumes nothing.
@@ -59,7 +59,7 @@ charge-after : (p q b c : Bool) (rule term : ℕ)
 unfolding all
 charge-after p q b c rule term = rw (last-test c) (charge-tests p q (cond b c false) rule term)
 
--- ---- pairs with what a board says once at most
+-- ---- pairs with what a replica says once at most
 
 over-said : (f : Claim → List Charge) (b : Bool) (c : Claim) → flatMap f (saidIf b c) ≡ cond b (f c) []
 unfolding flatMap saidIf
@@ -205,7 +205,7 @@ standing form n v sound l m =
 
 -- ---- all of them
 
-module _ (form : Form) (n S k : ℕ) (some-board : 0 < k) (few : k ≤ 16) (a b : View) (soundA : Sound form n a) (soundB : Sound form n b) where
+module _ (form : Form) (n S k : ℕ) (some-replica : 0 < k) (few : k ≤ 16) (a b : View) (soundA : Sound form n a) (soundB : Sound form n b) where
   unfoldable answer : Option Charge
   answer =
       let d = differAt 1 (a .log) (b .log) in
@@ -219,8 +219,8 @@ module _ (form : Form) (n S k : ℕ) (some-board : 0 < k) (few : k ≤ 16) (a b 
   from-signatures : lowest (charges k (slots S a) (slots S b)) ≡ answer
   unfolding charges pairs answer
   from-signatures =
-      ap (λ z. lowest (pairs z (says k (slots S b)))) (says-slots k S some-board few a)
-      ∙ ap (λ z. lowest (pairs (flatMap (voteBy k) (leads a) ++ flatMap (stampBy k) (leads a) ++ receiptBy k (a .commit) (a .log)) z)) (says-slots k S some-board few b)
+      ap (λ z. lowest (pairs z (says k (slots S b)))) (says-slots k S some-replica few a)
+      ∙ ap (λ z. lowest (pairs (flatMap (voteBy k) (leads a) ++ flatMap (stampBy k) (leads a) ++ receiptBy k (a .commit) (a .log)) z)) (says-slots k S some-replica few b)
       ∙ by-kind (flatMap (voteBy k) (leads a)) (flatMap (stampBy k) (leads a)) (receiptBy k (a .commit) (a .log))
       (flatMap (voteBy k) (leads b)) (flatMap (stampBy k) (leads b)) (receiptBy k (b .commit) (b .log))
       (are-votes k (leads a)) (are-stamps k (leads a)) (are-given k (a .commit) (a .log))

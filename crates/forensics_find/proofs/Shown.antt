@@ -1,5 +1,5 @@
 -- What the terms and receipts of two accepted submissions show, as they are read, is what their signatures show: the terms are the log's, a
--- board's row is that of the numbers, and the fork is that of the first difference.
+-- replica's row is that of the numbers, and the fork is that of the first difference.
 -- Assumes nothing.
 use mathlib.Core.Path.{_≡_, sym}
 use mathlib.Core.Bool.{true}
@@ -7,7 +7,7 @@ use mathlib.Core.List.{List, map}
 use Prim.Native.Nat.{ℕ, _<_}
 use native.Mathlib.Omega.{arith}
 use lib.ListN.{length}
-use Rattle.roster.specs.Roster.{boards, signatureSize, rosterNumber}
+use Rattle.roster.specs.Roster.{replicas, signatureSize, rosterNumber}
 use Rattle.roster.proofs.Accepted.{signature-bounds}
 use Rattle.log_chain.specs.Log.{version1}
 use Rattle.submission.specs.Trailer.{recordCount}
@@ -24,7 +24,7 @@ use Rattle.forensics_charges.specs.Charges.{receipts, ruledBy, rowsBy, forkOf, 
 use Rattle.forensics_find.proofs.Views.{ruled}
 use Rattle.forensics_tenures.specs.Tenures.{tenuresOf}
 use Rattle.forensics_find.specs.Read.{read}
-use Rattle.forensics_find.proofs.Boards.{rows-same}
+use Rattle.forensics_find.proofs.Replicas.{rows-same}
 use Rattle.log_difference.proofs.Differ.{fork-ruled}
 use Rattle.forensics_find.proofs.Ended.{tenures-read}
 use Rattle.forensics_find.proofs.Rules.{rows-ruled}
@@ -46,7 +46,7 @@ pub record Facts (roster s : List ℕ) : Type 0 where
   pub inside : Bounds (signatureSize roster) s
   pub laid : laidOut 4 (signatureSize roster) s ≡ true
   pub commit : within (view 4 (signatureSize roster) s .commit) (length (view 4 (signatureSize roster) s .log)) ≡ true
-  pub sound : Sound (formOf roster) (boards roster) (viewOf roster s)
+  pub sound : Sound (formOf roster) (replicas roster) (viewOf roster s)
 
 pub facts : (roster s : List ℕ) → rosterNumber roster ≡ 0 → validate roster s ≡ 0 → Facts roster s
 unfolding viewOf formOf version1
@@ -69,7 +69,7 @@ module _ (roster a b : List ℕ) (first : Facts roster a) (second : Facts roster
   unfolding ruled
   row-read k low high =
       rw (← tenures-read roster a (first .sound), ← tenures-read roster b (second .sound))
-      (rows-ruled (formOf roster) (boards roster) (signatureSize roster) k low (omega arith) (viewOf roster a) (viewOf roster b) (first .sound) (second .sound))
+      (rows-ruled (formOf roster) (replicas roster) (signatureSize roster) k low (omega arith) (viewOf roster a) (viewOf roster b) (first .sound) (second .sound))
 
   pub read-is : read (signatureSize roster) a b ≡ findings (signatureSize roster) (viewOf roster a) (viewOf roster b)
   unfolding read findings viewOf formOf version1

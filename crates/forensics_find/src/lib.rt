@@ -7,7 +7,7 @@ ghost use Rattle.submission.specs.Reading.{view, laidOut};
 ghost use Rattle.submission.specs.Validate.{within, viewOf, validate};
 ghost use Rattle.forensics.specs.Findings as forensics;
 ghost use Rattle.submission_layout.specs.Parts.{Bounds};
-ghost use Rattle.forensics_charges.specs.Charges as paper;
+ghost use Rattle.forensics_charges.specs.Charges as inner;
 ghost use Rattle.forensics_find.specs.Read.{read};
 use forensics_charges::Findings;
 
@@ -17,7 +17,7 @@ pub mod rows;
 fn found(a: &[u8], b: &[u8], size: usize) -> Findings
     requires { ⌜ Bounds size (now a) × (laidOut 4 size (now a) ≡ true) × (within (view 4 size (now a) .commit) (length (view 4 size (now a) .log)) ≡ true)
         × Bounds size (now b) × (laidOut 4 size (now b) ≡ true) × (within (view 4 size (now b) .commit) (length (view 4 size (now b) .log)) ≡ true) ⌝ }
-    ensures { λ r. ⌜ paper.findingsOf r ≡ read size (now (a .entry)) (now (b .entry)) ⌝ }
+    ensures { λ r. ⌜ inner.findingsOf r ≡ read size (now (a .entry)) (now (b .entry)) ⌝ }
 {
     let difference = log_difference::difference(
         a,
@@ -36,7 +36,7 @@ fn found(a: &[u8], b: &[u8], size: usize) -> Findings
 // The fork index and the rows of two submissions that a roster accepts.
 pub fn find(roster: &[u8], a: &[u8], b: &[u8]) -> Findings
     requires { ⌜ (rosterNumber (now roster) ≡ 0) × (validate (now roster) (now a) ≡ 0) × (validate (now roster) (now b) ≡ 0) ⌝ }
-    ensures { λ r. ⌜ paper.findingsOf r ≡ forensics.findings (signatureSize (now (roster .entry))) (viewOf (now (roster .entry)) (now (a .entry))) (viewOf (now (roster .entry)) (now (b .entry))) ⌝ }
+    ensures { λ r. ⌜ inner.findingsOf r ≡ forensics.findings (signatureSize (now (roster .entry))) (viewOf (now (roster .entry)) (now (a .entry))) (viewOf (now (roster .entry)) (now (b .entry))) ⌝ }
 {
     found(a, b, roster::signature_size(roster))
 }

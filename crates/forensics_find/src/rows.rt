@@ -1,4 +1,4 @@
-// A board's row: the lowest of what the four rules charge it with, from two submissions (document 01, "The report").
+// A replica's row: the lowest of what the four rules charge it with, from two submissions (document 01, "The report").
 ghost use mathlib.Core.Path.{_≡_};
 ghost use mathlib.Core.Bool.{true};
 ghost use mathlib.Core.List.{map, flatMap};
@@ -6,7 +6,7 @@ ghost use Prim.Native.Nat.{_<_};
 ghost use Rattle.submission.specs.Reading.{laidOut};
 ghost use Rattle.forensics.specs.Findings.{lowest};
 ghost use Rattle.submission_layout.specs.Parts.{Bounds};
-ghost use Rattle.forensics_charges.specs.Charges as paper;
+ghost use Rattle.forensics_charges.specs.Charges as inner;
 ghost use Rattle.forensics_charges.specs.declared.Receipts.the-variants.{Given};
 ghost use Rattle.forensics_tenures.specs.Tenures.{tenuresOf};
 use forensics_charges::Receipts;
@@ -14,13 +14,13 @@ use forensics_charges::Row;
 use forensics_rules::Receipt;
 use forensics_rules::Tenure;
 
-// The boards that have a row.
+// The replicas that have a row.
 const ROWS: usize = 9;
 
-// The row of board k from a term of the first submission and those of the second: rules 1 and 2.
+// The row of replica k from a term of the first submission and those of the second: rules 1 and 2.
 fn against(k: usize, difference: usize, x: Tenure, s: &[u8], size: usize) -> Row
     requires { ⌜ (0 < k) × Bounds size (now s) × (laidOut 4 size (now s) ≡ true) ⌝ }
-    ensures { λ r. ⌜ paper.chargeOf r ≡ lowest (flatMap (paper.between k difference x) (tenuresOf size (now (s .entry)))) ⌝ }
+    ensures { λ r. ⌜ inner.chargeOf r ≡ lowest (flatMap (inner.between k difference x) (tenuresOf size (now (s .entry)))) ⌝ }
 {
     let mut best = forensics_charges::unnamed();
     let mut left = submission_trailer::leader_count(s);
@@ -35,10 +35,10 @@ fn against(k: usize, difference: usize, x: Tenure, s: &[u8], size: usize) -> Row
     best
 }
 
-// The row of board k from the terms of two submissions: rules 1 and 2.
+// The row of replica k from the terms of two submissions: rules 1 and 2.
 fn among_terms(k: usize, difference: usize, a: &[u8], b: &[u8], size: usize) -> Row
     requires { ⌜ (0 < k) × Bounds size (now a) × (laidOut 4 size (now a) ≡ true) × Bounds size (now b) × (laidOut 4 size (now b) ≡ true) ⌝ }
-    ensures { λ r. ⌜ paper.chargeOf r ≡ lowest (paper.amongTerms k difference (tenuresOf size (now (a .entry))) (tenuresOf size (now (b .entry)))) ⌝ }
+    ensures { λ r. ⌜ inner.chargeOf r ≡ lowest (inner.amongTerms k difference (tenuresOf size (now (a .entry))) (tenuresOf size (now (b .entry)))) ⌝ }
 {
     let mut best = forensics_charges::unnamed();
     let mut left = submission_trailer::leader_count(a);
@@ -53,11 +53,11 @@ fn among_terms(k: usize, difference: usize, a: &[u8], b: &[u8], size: usize) -> 
     best
 }
 
-// The row of board k from a receipt of the one and the terms of the other: rule 3 or 4. The loop is that of `against`: one over both kinds of charge would need
+// The row of replica k from a receipt of the one and the terms of the other: rule 3 or 4. The loop is that of `against`: one over both kinds of charge would need
 // an enum of them, with its own contract, and a match in each turn.
 fn after_given(k: usize, rule: u8, given: Receipt, s: &[u8], size: usize) -> Row
     requires { ⌜ (0 < k) × (0 < rule) × Bounds size (now s) × (laidOut 4 size (now s) ≡ true) ⌝ }
-    ensures { λ r. ⌜ paper.chargeOf r ≡ lowest (paper.afterReceipts k rule (Given given) (tenuresOf size (now (s .entry)))) ⌝ }
+    ensures { λ r. ⌜ inner.chargeOf r ≡ lowest (inner.afterReceipts k rule (Given given) (tenuresOf size (now (s .entry)))) ⌝ }
 {
     let mut best = forensics_charges::unnamed();
     let mut left = submission_trailer::leader_count(s);
@@ -72,10 +72,10 @@ fn after_given(k: usize, rule: u8, given: Receipt, s: &[u8], size: usize) -> Row
     best
 }
 
-// The row of board k from the receipts of the one, where it has any, and the terms of the other.
+// The row of replica k from the receipts of the one, where it has any, and the terms of the other.
 fn after_receipts(k: usize, rule: u8, receipts: Receipts, s: &[u8], size: usize) -> Row
     requires { ⌜ (0 < k) × (0 < rule) × Bounds size (now s) × (laidOut 4 size (now s) ≡ true) ⌝ }
-    ensures { λ r. ⌜ paper.chargeOf r ≡ lowest (paper.afterReceipts k rule receipts (tenuresOf size (now (s .entry)))) ⌝ }
+    ensures { λ r. ⌜ inner.chargeOf r ≡ lowest (inner.afterReceipts k rule receipts (tenuresOf size (now (s .entry)))) ⌝ }
 {
     match receipts {
         Receipts::Given(given) => after_given(k, rule, given, s, size),
@@ -83,7 +83,7 @@ fn after_receipts(k: usize, rule: u8, receipts: Receipts, s: &[u8], size: usize)
     }
 }
 
-// The row of board k, from two submissions whose logs differ first at an index, and their receipts.
+// The row of replica k, from two submissions whose logs differ first at an index, and their receipts.
 fn row(
     k: usize,
     difference: usize,
@@ -94,7 +94,7 @@ fn row(
     size: usize,
 ) -> Row
     requires { ⌜ (0 < k) × Bounds size (now a) × (laidOut 4 size (now a) ≡ true) × Bounds size (now b) × (laidOut 4 size (now b) ≡ true) ⌝ }
-    ensures { λ r. ⌜ paper.chargeOf r ≡ lowest (paper.ruledBy k difference (tenuresOf size (now (a .entry))) (tenuresOf size (now (b .entry))) first second) ⌝ }
+    ensures { λ r. ⌜ inner.chargeOf r ≡ lowest (inner.ruledBy k difference (tenuresOf size (now (a .entry))) (tenuresOf size (now (b .entry))) first second) ⌝ }
 {
     let terms = among_terms(k, difference, a, b, size);
     let third = after_receipts(k, 3, first, b, size);
@@ -102,7 +102,7 @@ fn row(
     forensics_charges::lower(forensics_charges::lower(terms, third), fourth)
 }
 
-// The rows of boards 1 to 9.
+// The rows of replicas 1 to 9.
 pub fn rows(
     difference: usize,
     a: &[u8],
@@ -112,7 +112,7 @@ pub fn rows(
     size: usize,
 ) -> [Row; 9]
     requires { ⌜ Bounds size (now a) × (laidOut 4 size (now a) ≡ true) × Bounds size (now b) × (laidOut 4 size (now b) ≡ true) ⌝ }
-    ensures { λ r. ⌜ map paper.chargeOf r ≡ paper.rowsBy (λ k. lowest (paper.ruledBy k difference (tenuresOf size (now (a .entry))) (tenuresOf size (now (b .entry))) first second)) 9 1 ⌝ }
+    ensures { λ r. ⌜ map inner.chargeOf r ≡ inner.rowsBy (λ k. lowest (inner.ruledBy k difference (tenuresOf size (now (a .entry))) (tenuresOf size (now (b .entry))) first second)) 9 1 ⌝ }
 {
     let mut out = [Row { rule: 0, term: 0 }; 9];
     let mut i = 0;

@@ -9,7 +9,7 @@ use Rattle.replica.specs.Ends.{staler}
 use Rattle.forensics_rules.specs.declared.Tenure.{Tenure}
 use Rattle.forensics_rules.specs.declared.Receipt.{Receipt}
 
--- for board k
+-- for replica k
 module _ (k : ℕ) where
   -- rule 1: a signer of leader certificates of one term with different candidates
   unfoldable pub twoCandidates : Tenure → Tenure → Bool

@@ -6,7 +6,7 @@ ghost use lib.Dec.{eqb, leb, ltb};
 ghost use Rattle.refusal.specs.Checks.{all};
 ghost use Rattle.roster.specs.Masks.{signer};
 ghost use Rattle.replica.specs.Ends as ends;
-ghost use Rattle.forensics_rules.specs.Rules as paper;
+ghost use Rattle.forensics_rules.specs.Rules as inner;
 
 // A term of a submission as its rules compare it: the numbers of its leader certificate, and the index of its last record in this log, where the
 // stamp is.
@@ -19,7 +19,7 @@ pub struct Tenure {
     pub end: u32,
 }
 
-// The receipts of a commit certificate: the term and the index of the record, and the boards that gave them.
+// The receipts of a commit certificate: the term and the index of the record, and the replicas that gave them.
 pub struct Receipt {
     pub term: u32,
     pub index: u32,
@@ -36,7 +36,7 @@ pub fn staler(t: u32, i: u32, u: u32, j: u32) -> bool
     t < u
 }
 
-// Whether board k is among the signers of both.
+// Whether replica k is among the signers of both.
 fn both_signed(k: usize, first: u16, second: u16) -> bool
     requires { ⌜ 0 < k ⌝ }
     ensures { λ r. ⌜ r ≡ all (signer first k ∷ signer second k ∷ []) ⌝ }
@@ -47,10 +47,10 @@ fn both_signed(k: usize, first: u16, second: u16) -> bool
     roster::signer(second, k)
 }
 
-// Rule 1: whether board k voted for different candidates in one term.
+// Rule 1: whether replica k voted for different candidates in one term.
 pub fn two_candidates(k: usize, x: Tenure, y: Tenure) -> bool
     requires { ⌜ 0 < k ⌝ }
-    ensures { λ r. ⌜ r ≡ paper.twoCandidates k x y ⌝ }
+    ensures { λ r. ⌜ r ≡ inner.twoCandidates k x y ⌝ }
 {
     if !both_signed(k, x.signers, y.signers) {
         return false;
@@ -61,7 +61,7 @@ pub fn two_candidates(k: usize, x: Tenure, y: Tenure) -> bool
     x.candidate != y.candidate
 }
 
-// Whether board k is the candidate x of term a and the candidate y of term b, and the terms are one.
+// Whether replica k is the candidate x of term a and the candidate y of term b, and the terms are one.
 fn both_stamped(k: usize, x: u16, y: u16, a: u32, b: u32) -> bool
     ensures { λ r. ⌜ r ≡ all (eqb x k ∷ eqb y k ∷ eqb a b ∷ []) ⌝ }
 {
@@ -87,9 +87,9 @@ fn reached(difference: usize, x: u32, y: u32) -> bool
     difference <= y as usize
 }
 
-// Rule 2: whether board k stamped different logs in one term. They differ first at an index, 0 for none.
+// Rule 2: whether replica k stamped different logs in one term. They differ first at an index, 0 for none.
 pub fn two_logs(k: usize, difference: usize, x: Tenure, y: Tenure) -> bool
-    ensures { λ r. ⌜ r ≡ paper.twoLogs k difference x y ⌝ }
+    ensures { λ r. ⌜ r ≡ inner.twoLogs k difference x y ⌝ }
 {
     if !both_stamped(k, x.candidate, y.candidate, x.term, y.term) {
         return false;
@@ -97,10 +97,10 @@ pub fn two_logs(k: usize, difference: usize, x: Tenure, y: Tenure) -> bool
     reached(difference, x.end, y.end)
 }
 
-// Rules 3 and 4: whether board k gave a receipt and voted in a higher term for a staler log.
+// Rules 3 and 4: whether replica k gave a receipt and voted in a higher term for a staler log.
 pub fn forgotten(k: usize, given: Receipt, y: Tenure) -> bool
     requires { ⌜ 0 < k ⌝ }
-    ensures { λ r. ⌜ r ≡ paper.forgotten k given y ⌝ }
+    ensures { λ r. ⌜ r ≡ inner.forgotten k given y ⌝ }
 {
     if !both_signed(k, given.signers, y.signers) {
         return false;

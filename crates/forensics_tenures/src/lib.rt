@@ -9,7 +9,7 @@ ghost use Rattle.submission.specs.Validate.{submissionMost, within};
 ghost use Rattle.submission_reader.specs.Reader.{fieldsSize};
 ghost use Rattle.submission_layout.specs.Parts.{Bounds};
 ghost use Rattle.forensics_charges.specs.Charges.{receipts};
-ghost use Rattle.forensics_tenures.specs.Tenures as paper;
+ghost use Rattle.forensics_tenures.specs.Tenures as inner;
 use forensics_charges::Receipts;
 use forensics_rules::Receipt;
 use forensics_rules::Tenure;
@@ -19,7 +19,7 @@ use submission_commit::CommitPart;
 // The last record of the term before a place, with so many leader certificates from there on.
 fn end_at(s: &[u8], later: usize, next: usize) -> u32
     requires { ⌜ (trailerSize ≤ length (now s)) × (0 < later → next + 14 ≤ length (now s)) ⌝ }
-    ensures { λ r. ⌜ r ≡ paper.endAt (now (s .entry)) later next ⌝ }
+    ensures { λ r. ⌜ r ≡ inner.endAt (now (s .entry)) later next ⌝ }
 {
     if later == 0 {
         return submission_trailer::record_count(s) as u32;
@@ -31,7 +31,7 @@ fn end_at(s: &[u8], later: usize, next: usize) -> u32
 pub fn tenure_at(s: &[u8], later: usize, at: usize, next: usize) -> Tenure
     requires { ⌜ (trailerSize ≤ length (now s)) × (length (now s) ≤ submissionMost) × (at + fieldsSize ≤ length (now s))
         × (0 < later → next + 14 ≤ length (now s)) ⌝ }
-    ensures { λ r. ⌜ r ≡ paper.tenureAt (now (s .entry)) later at next ⌝ }
+    ensures { λ r. ⌜ r ≡ inner.tenureAt (now (s .entry)) later at next ⌝ }
 {
     let c = submission_reader::numbers_at(s, at);
     let end = end_at(s, later, next);

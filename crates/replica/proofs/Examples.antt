@@ -22,7 +22,7 @@ of t x = record { term = t; digest = x ∷ replicate 31 0 }
 ballot : ℕ → ℕ → ℕ → ℕ → Ballot
 ballot candidate t u j = record { candidate = candidate; term = t; lastTerm = u; lastIndex = j; lastPointer = replicate 32 0 }
 
--- three boards; term 4, a vote for board 2 in it, records of terms 3 and 4
+-- three replicas; term 4, a vote for replica 2 in it, records of terms 3 and 4
 ready : Option ℕ → State
 ready mark = record { term = 4; vote = some (ballot 2 4 3 1); stamp = mark; log = of 3 0 ∷ of 4 0 ∷ [] }
 

@@ -3,5 +3,5 @@ pub mod Order
 pub mod Honest
 pub mod Signed
 mod Case
-mod BoardActs
+mod ReplicaActs
 mod Outcomes

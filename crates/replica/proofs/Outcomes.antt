@@ -10,7 +10,7 @@ use Rattle.log_chain.specs.Log.{version1, termFrom, lastTerm}
 use Rattle.replica.specs.Ends.{rising, staler}
 use Rattle.replica.specs.Replica.{State, fitsTerm, fitsIndex, fitsRecords, oneCandidate, noStamp, noStaler, rules, allowed, after}
 use Rattle.replica.proofs.Case.{Case, given, state, ballot, of}
-use Rattle.replica.proofs.BoardActs.{raises, votes, runs, adds, stamps, receipts, others, cases}
+use Rattle.replica.proofs.ReplicaActs.{raises, votes, runs, adds, stamps, receipts, others, cases}
 
 outcome : Case → Option State
 outcome c = cond (allowed (version1 (replicate 16 0)) (c .replicas) (c .start) (c .act)) (some (after (c .start) (c .act))) none

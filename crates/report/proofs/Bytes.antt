@@ -1,4 +1,4 @@
--- The report's bytes: where the named boards stand in them, and which answer lies behind the number.
+-- The report's bytes: where the named replicas stand in them, and which answer lies behind the number.
 -- Assumes nothing.
 use mathlib.Core.Path.{_≡_}
 use mathlib.Core.Bool.{true, false}
@@ -15,7 +15,7 @@ use Rattle.submission.specs.Validate.{validate, viewOf}
 use Rattle.forensics.specs.Findings.{findings, maskOf}
 use Rattle.report.specs.Report.{Answer, refused, answer, reportBytes, namedIn}
 
--- ---- the named boards
+-- ---- the named replicas
 
 pub named-in : (a : Answer) (rest : List ℕ) → maskOf (a .findings .rows) < 256 ^ 2 → namedIn (reportBytes a ++ rest) ≡ maskOf (a .findings .rows)
 unfolding namedIn numberAt reportBytes be
@@ -26,9 +26,9 @@ named-in a rest h = number-be 2 (maskOf (a .findings .rows)) h
 -- all was accepted, or there was a refusal
 pub data Outcome (roster s₁ s₂ : List ℕ) : Type 0 where
   compared : rosterNumber roster ≡ 0 → validate roster s₁ ≡ 0 → validate roster s₂ ≡ 0
-      → answer roster s₁ s₂ ≡ record { number = 0; side = 0; findings = findings (signatureSize roster) (viewOf roster s₁) (viewOf roster s₂) }
+      → answer roster s₁ s₂ ≡ record { number = 0; place = 0; findings = findings (signatureSize roster) (viewOf roster s₁) (viewOf roster s₂) }
       → Outcome roster s₁ s₂
-  stopped : (number side : ℕ) → (number ≡ 0 → ⊥) → answer roster s₁ s₂ ≡ refused number side → Outcome roster s₁ s₂
+  stopped : (number place : ℕ) → (number ≡ 0 → ⊥) → answer roster s₁ s₂ ≡ refused number place → Outcome roster s₁ s₂
 
 pub outcome : (roster s₁ s₂ : List ℕ) → Outcome roster s₁ s₂
 unfolding answer

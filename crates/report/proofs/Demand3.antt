@@ -1,4 +1,4 @@
--- Demand 3 on the report's bytes: naming by the naming of views, fairness since a board that keeps the rules has no charge. The mask in the bytes has
+-- Demand 3 on the report's bytes: naming by the naming of views, fairness since a replica that keeps the rules has no charge. The mask in the bytes has
 -- a one exactly where a row has a charge; after a refusal it is 0.
 -- Assumes nothing.
 use mathlib.Core.Path.{_≡_, sym, _∙_}
@@ -12,7 +12,7 @@ use lib.Dec.{lit<, lit≤}
 use lib.ListN.{drop}
 use Rattle.words.proofs.Bytes.{Bytes}
 use Rattle.refusal.proofs.Laws.{look}
-use Rattle.roster.specs.Roster.{boards, signatureSize}
+use Rattle.roster.specs.Roster.{replicas, signatureSize}
 use Rattle.roster.specs.Masks.{signer}
 use Rattle.roster.proofs.Masks.{signer-positive}
 use Rattle.roster.proofs.Accepted.{sizes}
@@ -48,7 +48,7 @@ module _ (roster s₁ s₂ report : List ℕ) where
   unfolding auditNumber
   number-is e a d = rw (e, d)
 
-  -- and its named boards
+  -- and its named replicas
   named-are : short report ≡ false → (a : Answer) → answer roster s₁ s₂ ≡ a → maskOf (a .findings .rows) < 256 ^ 2
       → namedIn (reportAfter roster s₁ s₂ report) ≡ maskOf (a .findings .rows)
   unfolding reportAfter
@@ -59,11 +59,11 @@ module _ (roster s₁ s₂ report : List ℕ) where
   naming zero-number differ nobody = go (long (λ one. omega (arith, one, zero-number))) (outcome roster s₁ s₂)
     where
       go : short report ≡ false → Outcome roster s₁ s₂ → ⊥
-      go e (stopped number side some-number d) = some-number (sym (number-is e (refused number side) d) ∙ zero-number)
+      go e (stopped number place some-number d) = some-number (sym (number-is e (refused number place) d) ∙ zero-number)
       go e (compared r v₁ v₂ d) =
           let few = sizes roster r in
           let apart = differ-at (differ .index) _ _ (differ .one) (differ .other) (differ .in-one) (differ .in-other) (differ .differ) in
-          let positive = views-naming (formOf roster) (boards roster) (signatureSize roster) (omega (arith, few .low)) (few .high) (viewOf roster s₁) (viewOf roster s₂)
+          let positive = views-naming (formOf roster) (replicas roster) (signatureSize roster) (omega (arith, few .low)) (few .high) (viewOf roster s₁) (viewOf roster s₂)
           (validated roster s₁ v₁ .sound) (validated roster s₂ v₂ .sound) apart in
           omega (arith, positive, named-are e _ d (mask-fits roster s₁ s₂), nobody)
 
@@ -72,7 +72,7 @@ module _ (roster s₁ s₂ report : List ℕ) where
   fairness b₁ b₂ other k low high acts keep own apart = go (long other) (outcome roster s₁ s₂)
     where
       go : short report ≡ false → Outcome roster s₁ s₂ → signer (namedIn (reportAfter roster s₁ s₂ report)) k ≡ false
-      go e (stopped number side some-number d) = rw (named-are e (refused number side) d (lit< tt)) (no-one k)
+      go e (stopped number place some-number d) = rw (named-are e (refused number place) d (lit< tt)) (no-one k)
       go e (compared r v₁ v₂ d) =
           let few = sizes roster r in
           let none-charged = rows-fair roster s₁ s₂ b₁ b₂ v₁ v₂ (omega (arith, few .high)) k acts keep own apart in

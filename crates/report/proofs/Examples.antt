@@ -9,7 +9,7 @@ use Rattle.words.specs.BigEndian.{number, be, numberAt, same}
 use Rattle.refusal.specs.Checks.{all, every, check, refusal}
 use Rattle.lm_digits.specs.Parameters.{row}
 use Rattle.lm_format.specs.Format.{height, signatureLength, pathAt, oneTimeBytes}
-use Rattle.roster.specs.Roster.{cluster, boards, keyOf, treeType, oneTimeType, levels, signatureSize, everyBoard, sized, typed, single, rosterNumber}
+use Rattle.roster.specs.Roster.{cluster, replicas, keyOf, treeType, oneTimeType, levels, signatureSize, everyReplica, sized, typed, single, rosterNumber}
 use Rattle.log_chain.specs.Log.{version1}
 use Rattle.replica.specs.Ends.{rising}
 use Rattle.submission.specs.Trailer.{name, word, recordCount, leaderCount, distance, version}
@@ -20,7 +20,7 @@ use Rattle.forensics.specs.Findings.{differAt, fork, says, charges, lowest, row
 use Rattle.report.specs.Report.{refused, answer, rowBytes, reportBytes, short, auditNumber, reportAfter}
 use Rattle.report.specs.Figures.{sampleKey, sampleRoster, sampleSubmission}
 
--- three boards
+-- three replicas
 three : List ℕ
 three = sampleRoster 3 (1 ∷ 2 ∷ 3 ∷ [])
 
@@ -30,7 +30,7 @@ audited roster s₁ s₂ = auditNumber roster s₁ s₂ (replicate 55 9) ∷ rep
 
 -- number and where, then zeros, then what was there
 told : ℕ → ℕ → List ℕ
-told number side = number ∷ number ∷ side ∷ replicate 51 0 ++ (9 ∷ 9 ∷ [])
+told number place = number ∷ number ∷ place ∷ replicate 51 0 ++ (9 ∷ 9 ∷ [])
 
 -- accepted; the roster's refusal comes first, then the first submission's, then the second's
 orders : (audited three sampleSubmission sampleSubmission ≡ told 0 0) × (audited [] [] [] ≡ told 2 0)
@@ -38,7 +38,7 @@ orders : (audited three sampleSubmission sampleSubmission ≡ told 0 0) × (audi
     × (audited three (replicate 44 0) [] ≡ told 6 1) × (audited three sampleSubmission (drop 1 sampleSubmission) ≡ told 5 2)
     × (audited three sampleSubmission (replicate 44 0) ≡ told 6 2)
 unfolding three audited told auditNumber reportAfter short answer refused reportBytes rowBytes sampleKey sampleRoster sampleSubmission findings fork committed committedBy
-    differAt rowsFrom charges says lowest maskOf bit be number numberAt same flatMap all every check refusal cluster boards keyOf treeType oneTimeType everyBoard sized typed
+    differAt rowsFrom charges says lowest maskOf bit be number numberAt same flatMap all every check refusal cluster replicas keyOf treeType oneTimeType everyReplica sized typed
     single rosterNumber version1 rising name word recordCount leaderCount distance version runs runsAfter leads leadsOf slots receiptsOf view laidOut recordSize recordsOf
     certificates certificatesEnd stampsAt leadersFrom stampsFrom commitFrom commitOf sizedSubmission versioned named counted commitSigners masks ordered oneEach within formOf
     viewOf slotsOf validate signatureSize signatureLength pathAt oneTimeBytes row levels height
@@ -46,7 +46,7 @@ orders = (refl, refl, refl, refl, refl, refl, refl)
 
 -- 53 bytes are enough; with 52 the number is 1, before all others, and nothing is written
 short-report : (auditNumber [] [] [] (replicate 53 9) ≡ 2) × (auditNumber [] [] [] (replicate 52 9) ≡ 1) × (reportAfter [] [] [] (replicate 52 9) ≡ replicate 52 9)
-unfolding auditNumber reportAfter short answer refused rosterNumber refusal check sized all boards numberAt number
+unfolding auditNumber reportAfter short answer refused rosterNumber refusal check sized all replicas numberAt number
 short-report = (refl, refl, refl)
 
 -- each row has its rule and its term, of four bytes

@@ -1,7 +1,7 @@
--- The premises of fairness, met all at once by one example: three boards, two accepted submissions with empty logs, and a board that raises its term, adds a
+-- The premises of fairness, met all at once by one example: three replicas, two accepted submissions with empty logs, and a replica that raises its term, adds a
 -- record, stamps it and gives a receipt for it. That rules out that `Fairness` holds only because nothing meets its premises: board rules that no such acts
 -- keep, strings that are never apart, or one premise against another. It does not show more: no signature stands in these submissions, so that
--- `OwnSignatures` asks nothing here, and no board is named.
+-- `OwnSignatures` asks nothing here, and no replica is named.
 -- Assumes nothing.
 use mathlib.Core.Path.{_≡_, refl, sym, _∙_}
 use mathlib.Core.Bool.{true, false}
@@ -18,7 +18,7 @@ use Rattle.refusal.specs.Checks.{all, every, check, refusal}
 use Rattle.refusal.proofs.Laws.{cond-true, every-mem}
 use Rattle.lm_digits.specs.Parameters.{row}
 use Rattle.lm_format.specs.Format.{height, signatureLength, pathAt, oneTimeBytes}
-use Rattle.roster.specs.Roster.{cluster, boards, keyOf, treeType, oneTimeType, levels, signatureSize, everyBoard, sized, typed, single, rosterNumber}
+use Rattle.roster.specs.Roster.{cluster, replicas, keyOf, treeType, oneTimeType, levels, signatureSize, everyReplica, sized, typed, single, rosterNumber}
 use Rattle.roster.specs.Masks.{signer}
 use Rattle.log_chain.specs.Log.{version1, Record, chainString, chainFrom, chainStrings, termFrom, lastTerm}
 use Rattle.log_chain.specs.Claim.{Ballot}
@@ -52,14 +52,14 @@ buffer : List ℕ
 buffer = replicate 53 0
 
 -- the acts keep the rules
-kept : keeps (formOf three) (boards three) first acts ≡ true
-unfolding three one ballot acts sampleRoster sampleKey be flatMap cluster boards numberAt number formOf version1 first keeps allowed all rules after fitsTerm fitsIndex fitsRecords oneCandidate noStamp noStaler rising staler
+kept : keeps (formOf three) (replicas three) first acts ≡ true
+unfolding three one ballot acts sampleRoster sampleKey be flatMap cluster replicas numberAt number formOf version1 first keeps allowed all rules after fitsTerm fitsIndex fitsRecords oneCandidate noStamp noStaler rising staler
     lastTerm termFrom
 kept = refl
 
 -- no signature stands in the submissions
 own : OwnSignatures three sampleSubmission sampleSubmission 1 acts
-unfolding OwnSignatures three sampleRoster sampleKey sampleSubmission be number numberAt flatMap cluster boards keyOf treeType levels signatureSize signatureLength pathAt oneTimeBytes
+unfolding OwnSignatures three sampleRoster sampleKey sampleSubmission be number numberAt flatMap cluster replicas keyOf treeType levels signatureSize signatureLength pathAt oneTimeBytes
     row height word recordCount leaderCount distance runs runsAfter leads leadsOf slots receiptsOf view recordSize recordsOf certificates certificatesEnd stampsAt leadersFrom
     stampsFrom commitFrom commitOf formOf version1 viewOf slotsOf
 own x m g = absurd (List·Memᴰ·not-nil m)
@@ -83,16 +83,16 @@ apart x y mx my e = alike x mx ∙ sym (alike y my)
 
 -- 53 bytes of report: the two are accepted
 accepted : auditNumber three sampleSubmission sampleSubmission buffer ≡ 0
-unfolding three buffer auditNumber short answer sampleKey sampleRoster sampleSubmission be number numberAt same flatMap all every check refusal cluster boards keyOf treeType
-    oneTimeType everyBoard sized typed single rosterNumber version1 rising name word recordCount leaderCount distance version runs runsAfter leads leadsOf slots receiptsOf view
+unfolding three buffer auditNumber short answer sampleKey sampleRoster sampleSubmission be number numberAt same flatMap all every check refusal cluster replicas keyOf treeType
+    oneTimeType everyReplica sized typed single rosterNumber version1 rising name word recordCount leaderCount distance version runs runsAfter leads leadsOf slots receiptsOf view
     laidOut recordSize recordsOf certificates certificatesEnd stampsAt leadersFrom stampsFrom commitFrom commitOf sizedSubmission versioned named counted commitSigners masks ordered
     oneEach within formOf viewOf slotsOf validate signatureSize signatureLength pathAt oneTimeBytes row levels height
 accepted = refl
 
--- board 1 is one of the three
-a-board : 1 ≤ boards three
-unfolding three sampleRoster sampleKey be flatMap boards numberAt number
-a-board = lit≤ tt
+-- replica 1 is one of the three
+a-replica : 1 ≤ replicas three
+unfolding three sampleRoster sampleKey be flatMap replicas numberAt number
+a-replica = lit≤ tt
 
 -- the submission's bytes are below 256
 tested : (l : List ℕ) → every (λ b. ltb b 256) l ≡ true → Bytes l
@@ -105,13 +105,13 @@ unfolding sampleSubmission be flatMap every
 bytes = tested _ refl
 
 -- all at once
-premises-met : Bytes sampleSubmission × (auditNumber three sampleSubmission sampleSubmission buffer ≡ 0) × (1 ≤ boards three)
-    × (keeps (formOf three) (boards three) first acts ≡ true) × OwnSignatures three sampleSubmission sampleSubmission 1 acts
+premises-met : Bytes sampleSubmission × (auditNumber three sampleSubmission sampleSubmission buffer ≡ 0) × (1 ≤ replicas three)
+    × (keeps (formOf three) (replicas three) first acts ≡ true) × OwnSignatures three sampleSubmission sampleSubmission 1 acts
     × Apart (strings three sampleSubmission sampleSubmission acts) (strings three sampleSubmission sampleSubmission acts)
-premises-met = (bytes, accepted, a-board, kept, own, apart)
+premises-met = (bytes, accepted, a-replica, kept, own, apart)
 
--- and what fairness says then: board 1 is not named
+-- and what fairness says then: replica 1 is not named
 not-named : signer (namedIn (reportAfter three sampleSubmission sampleSubmission buffer)) 1 ≡ false
 unfolding Fairness
 not-named =
-    fairness three sampleSubmission sampleSubmission buffer bytes bytes (λ e. omega (arith, accepted, e)) 1 (lit< tt) a-board acts kept own apart
+    fairness three sampleSubmission sampleSubmission buffer bytes bytes (λ e. omega (arith, accepted, e)) 1 (lit< tt) a-replica acts kept own apart

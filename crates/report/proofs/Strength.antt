@@ -9,7 +9,7 @@ use borrow.Author.Tests.{eq-eqb}
 use Rattle.words.proofs.Same.{true-same}
 use Rattle.refusal.proofs.Laws.{look}
 use Rattle.lms.specs.Check.{good}
-use Rattle.roster.specs.Roster.{boards, keyOf}
+use Rattle.roster.specs.Roster.{replicas, keyOf}
 use Rattle.roster.specs.Masks.{signer}
 use Rattle.log_chain.specs.Log.{Record, chainStrings, chainFrom}
 use Rattle.log_chain.specs.Claim.{Ballot, voted, say}
@@ -50,8 +50,8 @@ module _ (roster s₁ s₂ : List ℕ) (number : ℕ) (report : List ℕ) where
   unfolding Naming fork
   fork-named claim zero-number forked nobody = claim zero-number (differs 1 _ _ forked) nobody
 
-  -- fairness: a board under whose key no signature of the two is good is not named, if no two chain strings of the two have one digest
-  silent : Fairness roster s₁ s₂ number report → (number ≡ 1 → ⊥) → (k : ℕ) → 0 < k → k ≤ boards roster
+  -- fairness: a replica under whose key no signature of the two is good is not named, if no two chain strings of the two have one digest
+  silent : Fairness roster s₁ s₂ number report → (number ≡ 1 → ⊥) → (k : ℕ) → 0 < k → k ≤ replicas roster
       → ((x : Slot) → List·Memᴰ x (slotsOf roster s₁ ++ slotsOf roster s₂) → good (keyOf roster k) (say (formOf roster) (x .claim)) (x .signature) ≡ true → ⊥)
       → (let C = chainStrings (formOf roster) (viewOf roster s₁ .log) ++ chainStrings (formOf roster) (viewOf roster s₂ .log) in Apart C C)
       → signer (namedIn report) k ≡ false
@@ -59,8 +59,8 @@ module _ (roster s₁ s₂ : List ℕ) (number : ℕ) (report : List ℕ) where
   silent claim other k low high bad apart = claim other k low high [] refl (λ x m g. absurd (bad x m g)) apart
 
   -- and one that has raised its term and cast one vote, if each good signature under its key stands on that vote's bytes
-  voter : Fairness roster s₁ s₂ number report → (number ≡ 1 → ⊥) → (k : ℕ) → 0 < k → k ≤ boards roster
-      → (b : Ballot) → keeps (formOf roster) (boards roster) first (raise 0 ∷ vote b ∷ []) ≡ true
+  voter : Fairness roster s₁ s₂ number report → (number ≡ 1 → ⊥) → (k : ℕ) → 0 < k → k ≤ replicas roster
+      → (b : Ballot) → keeps (formOf roster) (replicas roster) first (raise 0 ∷ vote b ∷ []) ≡ true
       → ((x : Slot) → List·Memᴰ x (slotsOf roster s₁ ++ slotsOf roster s₂) → good (keyOf roster k) (say (formOf roster) (x .claim)) (x .signature) ≡ true
       → say (formOf roster) (x .claim) ≡ say (formOf roster) (voted b))
       → (let C = chainStrings (formOf roster) (viewOf roster s₁ .log) ++ chainStrings (formOf roster) (viewOf roster s₂ .log) in Apart C C)

@@ -6,7 +6,7 @@ use mathlib.Core.Option.{some}
 use Prim.Native.Nat.{ℕ, _≤_, _<_}
 use lib.ListN.{getElem?}
 use Rattle.lms.specs.Check.{good}
-use Rattle.roster.specs.Roster.{boards, keyOf}
+use Rattle.roster.specs.Roster.{replicas, keyOf}
 use Rattle.roster.specs.Masks.{signer}
 use Rattle.log_chain.specs.Log.{Record, chainStrings}
 use Rattle.log_chain.specs.Claim.{say}
@@ -28,14 +28,14 @@ pub record Differ (l m : List Record) : Type 0 where
   pub differ : one ≡ other → ⊥
 
 module _ (roster s₁ s₂ : List ℕ) where
-  -- any two accepted submissions that differ at an index committed in both get at least one board named
+  -- any two accepted submissions that differ at an index committed in both get at least one replica named
   unfoldable pub Naming : ℕ → List ℕ → Type 0
   Naming number report =
       number ≡ 0 → Differ (committed (viewOf roster s₁)) (committed (viewOf roster s₂)) → namedIn report ≡ 0 → ⊥
 
   -- ---- fairness
 
-  -- each signature in the two submissions that is good under the board's key stands on a statement signed in the list
+  -- each signature in the two submissions that is good under the replica's key stands on a statement signed in the list
   unfoldable pub OwnSignatures : ℕ → List Act → Type 0
   OwnSignatures k acts =
       (x : Slot) → List·Memᴰ x (slotsOf roster s₁ ++ slotsOf roster s₂)
@@ -48,10 +48,10 @@ module _ (roster s₁ s₂ : List ℕ) where
       flatMap (chainStrings (formOf roster)) (held first acts) ++ chainStrings (formOf roster) (viewOf roster s₁ .log)
       ++ chainStrings (formOf roster) (viewOf roster s₂ .log)
 
-  -- a board whose acts all kept the board rules is never named, whatever others did or sent: one claim over its whole list of acts. With
+  -- a replica whose acts all kept the board rules is never named, whatever others did or sent: one claim over its whole list of acts. With
   -- number 1 there is no report
   unfoldable pub Fairness : ℕ → List ℕ → Type 0
   Fairness number report =
-      (number ≡ 1 → ⊥) → (k : ℕ) → 0 < k → k ≤ boards roster
-      → (acts : List Act) → keeps (formOf roster) (boards roster) first acts ≡ true
+      (number ≡ 1 → ⊥) → (k : ℕ) → 0 < k → k ≤ replicas roster
+      → (acts : List Act) → keeps (formOf roster) (replicas roster) first acts ≡ true
       → OwnSignatures k acts → Apart (strings acts) (strings acts) → signer (namedIn report) k ≡ false

@@ -14,11 +14,11 @@ use Rattle.forensics.specs.Findings.{lowest}
 
 -- ---- what they speak of
 
--- keys of tree type 5 and one-time type 4, each with its board's number in its other bytes
+-- keys of tree type 5 and one-time type 4, each with its replica's number in its other bytes
 unfoldable pub sampleKey : ℕ → List ℕ
 sampleKey k = be 4 5 ++ be 4 4 ++ replicate 48 k
 
--- a roster that says n, with the keys of some boards
+-- a roster that says n, with the keys of some replicas
 unfoldable pub sampleRoster : ℕ → List ℕ → List ℕ
 sampleRoster n ks = replicate nameSize 7 ++ be 2 n ++ flatMap sampleKey ks
 

@@ -16,13 +16,13 @@ use Rattle.forensics.specs.Findings.{Findings, findings, rowCount, maskOf}
 pub record Answer : Type 0 where
   pub number : ℕ
   -- document 01's where: 0 roster or none, 1 or 2 the submission
-  pub side : ℕ
+  pub place : ℕ
   pub findings : Findings
 
 -- after a refusal all but number and where are 0
 unfoldable pub refused : ℕ → ℕ → Answer
-refused number side =
-    record { number = number; side = side; findings = record { fork = 0; rows = replicate rowCount none } }
+refused number place =
+    record { number = number; place = place; findings = record { fork = 0; rows = replicate rowCount none } }
 
 -- first 2 to 4, then 5 to 15 for the first submission, then 5 to 15 for the second
 unfoldable pub answer : List ℕ → List ℕ → List ℕ → Answer
@@ -32,14 +32,14 @@ answer roster first second =
     cond (eqb (rosterNumber roster) 0)
     (cond (eqb a 0)
     (cond (eqb b 0)
-    (record { number = 0; side = 0; findings = findings (signatureSize roster) (viewOf roster first) (viewOf roster second) })
+    (record { number = 0; place = 0; findings = findings (signatureSize roster) (viewOf roster first) (viewOf roster second) })
     (refused b 2))
     (refused a 1))
     (refused (rosterNumber roster) 0)
 
 -- ---- the bytes
 
--- number, where, fork index, named boards, then nine rows of rule and term
+-- number, where, fork index, named replicas, then nine rows of rule and term
 abbrev pub reportSize : ℕ
 reportSize = 53
 
@@ -50,7 +50,7 @@ rowBytes (some c) = be 1 (c .rule) ++ be 4 (c .term)
 unfoldable pub reportBytes : Answer → List ℕ
 reportBytes a =
     let f = a .findings in
-    be 1 (a .number) ++ be 1 (a .side) ++ be 4 (f .fork) ++ be 2 (maskOf (f .rows)) ++ flatMap rowBytes (f .rows)
+    be 1 (a .number) ++ be 1 (a .place) ++ be 4 (f .fork) ++ be 2 (maskOf (f .rows)) ++ flatMap rowBytes (f .rows)
 
 -- 1: the report buffer is below 53 bytes
 unfoldable pub short : List ℕ → Bool
@@ -65,6 +65,6 @@ unfoldable pub reportAfter : List ℕ → List ℕ → List ℕ → List ℕ →
 reportAfter roster first second report =
     cond (short report) report (reportBytes (answer roster first second) ++ drop reportSize report)
 
--- the named boards, in a report's bytes
+-- the named replicas, in a report's bytes
 unfoldable pub namedIn : List ℕ → ℕ
 namedIn report = numberAt 2 report 6

@@ -8,9 +8,9 @@ use Rattle.report.specs.Report.{Answer}
 
 -- number, where, fork index and rows
 unfoldable pub answered : ℕ → ℕ → ℕ → List Row → Answer
-answered number side fork rows =
-    record { number = number; side = side; findings = record { fork = fork; rows = map chargeOf rows } }
+answered number place fork rows =
+    record { number = number; place = place; findings = record { fork = fork; rows = map chargeOf rows } }
 
 -- number 0: both submissions were accepted
 unfoldable pub accepted : Findings → Answer
-accepted f = record { number = 0; side = 0; findings = findingsOf f }
+accepted f = record { number = 0; place = 0; findings = findingsOf f }

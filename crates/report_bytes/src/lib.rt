@@ -1,4 +1,4 @@
-// The report's bytes, written (document 01, "The report"): number, where, fork index, named boards, and nine rows.
+// The report's bytes, written (document 01, "The report"): number, where, fork index, named replicas, and nine rows.
 ghost use mathlib.Core.Path.{_≡_};
 ghost use mathlib.Core.List.{_++_};
 ghost use Prim.Native.Nat.{_≤_};
@@ -10,23 +10,23 @@ ghost use Rattle.report_bytes.specs.Answers.{answered, accepted};
 use forensics_charges::Findings;
 use forensics_charges::Row;
 
-// Writes number, where, fork index and named boards to the first 8 bytes.
-fn put_head(out: &mut [u8], number: u32, side: u32, fork: u32, mask: u16)
+// Writes number, where, fork index and named replicas to the first 8 bytes.
+fn put_head(out: &mut [u8], number: u32, place: u32, fork: u32, mask: u16)
     requires { ⌜ 8 ≤ length (now out) ⌝ }
-    ensures { λ _. ⌜ now (out .exit) ≡ sets (now (out .entry)) 0 (be 1 number ++ be 1 side ++ be 4 fork ++ be 2 mask) ⌝ }
+    ensures { λ _. ⌜ now (out .exit) ≡ sets (now (out .entry)) 0 (be 1 number ++ be 1 place ++ be 4 fork ++ be 2 mask) ⌝ }
 {
     report_rows::put_u8(out, 0, number);
-    report_rows::put_u8(out, 1, side);
+    report_rows::put_u8(out, 1, place);
     words::put_u32(out, 2, fork);
     words::put_u16(out, 6, mask);
 }
 
 // Writes a report: number, where, fork index and rows.
-fn put_report(out: &mut [u8], number: u32, side: u32, fork: u32, rows: [Row; 9])
+fn put_report(out: &mut [u8], number: u32, place: u32, fork: u32, rows: [Row; 9])
     requires { ⌜ reportSize ≤ length (now out) ⌝ }
-    ensures { λ _. ⌜ now (out .exit) ≡ reportBytes (answered number side fork rows) ++ drop reportSize (now (out .entry)) ⌝ }
+    ensures { λ _. ⌜ now (out .exit) ≡ reportBytes (answered number place fork rows) ++ drop reportSize (now (out .entry)) ⌝ }
 {
-    put_head(out, number, side, fork, report_mask::named(rows));
+    put_head(out, number, place, fork, report_mask::named(rows));
     report_rows::put_rows(out, rows);
 }
 
@@ -42,12 +42,12 @@ pub fn write_accepted(report: &mut [u8], findings: Findings) -> u32
 }
 
 // Writes the report of a refusal to the first 53 bytes, keeps the rest, and gives the number.
-pub fn write_refused(report: &mut [u8], number: u32, side: u32) -> u32
+pub fn write_refused(report: &mut [u8], number: u32, place: u32) -> u32
     requires { ⌜ reportSize ≤ length (now report) ⌝ }
-    ensures number { λ r. ⌜ r ≡ refused number side .number ⌝ }
-    ensures bytes { λ _. ⌜ now (report .exit) ≡ reportBytes (refused number side) ++ drop reportSize (now (report .entry)) ⌝ }
+    ensures number { λ r. ⌜ r ≡ refused number place .number ⌝ }
+    ensures bytes { λ _. ⌜ now (report .exit) ≡ reportBytes (refused number place) ++ drop reportSize (now (report .entry)) ⌝ }
 {
     let rows = [Row { rule: 0, term: 0 }; 9];
-    put_report(report, number, side, 0, rows);
+    put_report(report, number, place, 0, rows);
     number
 }

@@ -1,4 +1,4 @@
--- The named boards from the rows: each row gives a bit, the highest board first.
+-- The named replicas from the rows: each row gives a bit, the highest replica first.
 -- Assumes nothing.
 use mathlib.Core.Path.{_≡_, ap, _∙_}
 use mathlib.Core.List.{List, [], _∷_, map}
@@ -24,7 +24,7 @@ unfolding maskOf
 mask-lt [] = lit< tt
 mask-lt (x ∷ l) = let b = bit-lt x in let m = mask-lt l in rw pow-suc (omega arith)
 
--- the highest board first
+-- the highest replica first
 pub mask-step : (rows : List Row) (k : ℕ) (d : Row) → k < length rows
     → maskOf (map chargeOf (drop k rows)) ≡ bit (chargeOf (getD rows k d)) + 2 * maskOf (map chargeOf (drop (suc k) rows))
 unfolding maskOf
@@ -37,7 +37,7 @@ next-bit rows k mask b d h long e f =
     let step = rw after at (mask-step rows (k - 1) d (omega arith)) in
     rw step (omega arith)
 
--- the boards from the second on leave room for one more bit
+-- the replicas from the second on leave room for one more bit
 pub mask-small : (rows : List Row) (k : ℕ) → length rows ≡ 9 → 0 < k → maskOf (map chargeOf (drop k rows)) < 256
 mask-small rows k long h =
     let count : length (map chargeOf (drop k rows)) ≡ 9 - k = length-map (drop k rows) chargeOf ∙ length-drop k rows ∙ ap (λ (n : ℕ). n - k) long in

@@ -1,4 +1,4 @@
-// The boards that nine rows name (document 01, "The report").
+// The replicas that nine rows name (document 01, "The report").
 ghost use mathlib.Core.Path.{_≡_};
 ghost use mathlib.Core.List.{map};
 ghost use Prim.Native.Nat.{_<_};
@@ -6,14 +6,14 @@ ghost use Rattle.forensics.specs.Findings.{bit, maskOf};
 ghost use Rattle.forensics_charges.specs.Charges.{chargeOf};
 use forensics_charges::Row;
 
-// 1 if the board of a row is named, and 0 if not.
+// 1 if the replica of a row is named, and 0 if not.
 fn bit_of(row: Row) -> u16
     ensures { λ r. ⌜ (r ≡ bit (chargeOf row)) × (r < 2) ⌝ }
 {
     if row.rule == 0 { 0 } else { 1 }
 }
 
-// The named boards: bit k - 1 is board k.
+// The named replicas: bit k - 1 is replica k.
 pub fn named(rows: [Row; 9]) -> u16
     ensures { λ r. ⌜ r ≡ maskOf (map chargeOf rows) ⌝ }
 {

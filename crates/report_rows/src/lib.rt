@@ -17,14 +17,14 @@ pub fn put_u8(out: &mut [u8], at: usize, x: u32)
     out[at] = (x % 256) as u8;
 }
 
-// The term that is written of a row: 0 if its board is not named.
+// The term that is written of a row: 0 if its replica is not named.
 fn term_of(row: Row) -> u32
     ensures { λ r. ⌜ be 1 (row .rule) ++ be 4 r ≡ rowBytes (chargeOf row) ⌝ }
 {
     if row.rule == 0 { 0 } else { row.term }
 }
 
-// Writes a row to the 5 bytes at a place: zeros if its board is not named.
+// Writes a row to the 5 bytes at a place: zeros if its replica is not named.
 fn put_row(out: &mut [u8], at: usize, row: Row)
     requires { ⌜ at + 5 ≤ length (now out) ⌝ }
     ensures { λ _. ⌜ now (out .exit) ≡ sets (now (out .entry)) at (rowBytes (chargeOf row)) ⌝ }

@@ -1,4 +1,4 @@
--- What an accepted roster has: 3 to 9 boards, each with its key inside, and a listed height, which gives S.
+-- What an accepted roster has: 3 to 9 replicas, each with its key inside, and a listed height, which gives S.
 -- Assumes nothing.
 use mathlib.Core.Path.{_≡_, refl, _∙_}
 use mathlib.Core.Bool.{Bool, true, false, cond}
@@ -14,15 +14,15 @@ use Rattle.lm_digits.specs.Parameters.{row}
 use Rattle.lm_format.specs.declared.Height.{Height}
 use Rattle.lm_format.specs.declared.Height.the-variants.{Levels}
 use Rattle.lm_format.specs.Format.{height, keySize, oneTimeBytes, pathAt, signatureLength}
-use Rattle.roster.specs.Roster.{headSize, boards, keyOf, treeType, oneTimeType, levels, signatureSize, everyBoard, sized, typed, rosterNumber}
+use Rattle.roster.specs.Roster.{headSize, replicas, keyOf, treeType, oneTimeType, levels, signatureSize, everyReplica, sized, typed, rosterNumber}
 
--- ---- every board
+-- ---- every replica
 
-every-each : (n : ℕ) (test : ℕ → Bool) → everyBoard n test ≡ true → (k : ℕ) → 0 < k → k ≤ n → test k ≡ true
-unfolding everyBoard
+every-each : (n : ℕ) (test : ℕ → Bool) → everyReplica n test ≡ true → (k : ℕ) → 0 < k → k ≤ n → test k ≡ true
+unfolding everyReplica
 every-each zero test e k low high = absurd (omega arith)
 every-each (suc n) test e k low high =
-    let p = cond-true (test (suc n)) (everyBoard n test) e in
+    let p = cond-true (test (suc n)) (everyReplica n test) e in
     ⊎-elim
     (λ h. every-each n test (p .1) k low (leb-true k n h))
     (λ h. let last : k ≡ suc n = omega (arith, leb-false k n h) in rw last (p .0))
@@ -31,9 +31,9 @@ every-each (suc n) test e k low high =
 -- ---- what each check says
 
 pub record Sizes (roster : List ℕ) : Type 0 where
-  pub low : 3 ≤ boards roster
-  pub high : boards roster ≤ 9
-  pub size : length roster ≡ headSize + keySize * boards roster
+  pub low : 3 ≤ replicas roster
+  pub high : replicas roster ≤ 9
+  pub size : length roster ≡ headSize + keySize * replicas roster
 
 pub sized-true : (roster : List ℕ) → sized roster ≡ true → Sizes roster
 unfolding sized
@@ -104,7 +104,7 @@ size-of-levels roster = refl
 -- ---- an accepted roster
 
 module _ (roster : List ℕ) (fine : rosterNumber roster ≡ 0) where
-  checked : (sized roster ≡ true) × (everyBoard (boards roster) (typed roster) ≡ true)
+  checked : (sized roster ≡ true) × (everyReplica (replicas roster) (typed roster) ≡ true)
   unfolding rosterNumber
   checked =
       let c2 = accepted _ _ _ (lit< tt) fine in
@@ -113,12 +113,12 @@ module _ (roster : List ℕ) (fine : rosterNumber roster ≡ 0) where
   pub sizes : Sizes roster
   sizes = sized-true roster (checked .0)
 
-  -- the key of board k lies inside
-  pub key-inside : (k : ℕ) → k ≤ boards roster → headSize + keySize * k ≤ length roster
+  -- the key of replica k lies inside
+  pub key-inside : (k : ℕ) → k ≤ replicas roster → headSize + keySize * k ≤ length roster
   key-inside k h = let s = sizes in omega arith
 
-  pub types : (k : ℕ) → 0 < k → k ≤ boards roster → Types roster k
-  types k low high = typed-true roster k (every-each (boards roster) (typed roster) (checked .1) k low high)
+  pub types : (k : ℕ) → 0 < k → k ≤ replicas roster → Types roster k
+  types k low high = typed-true roster k (every-each (replicas roster) (typed roster) (checked .1) k low high)
 
   -- S, by the height of the one tree type
   pub signature-size : (h : ℕ) × (height (treeType (keyOf roster 1)) ≡ Levels h) × (5 ≤ h) × (h ≤ 25) × (signatureSize roster ≡ 1132 + 32 * h)

@@ -7,8 +7,8 @@ use Prim.Native.Nat.{ℕ}
 use lib.ListN.{take, replicate}
 use Rattle.words.specs.BigEndian.{number, be, numberAt, same}
 use Rattle.refusal.specs.Checks.{all, check, refusal}
-use Rattle.roster.specs.Roster.{boards, keyOf, treeType, oneTimeType, everyBoard, sized, typed, single, rosterNumber}
-use Rattle.roster.specs.Masks.{signer, boardsFrom, boardsOf}
+use Rattle.roster.specs.Roster.{replicas, keyOf, treeType, oneTimeType, everyReplica, sized, typed, single, rosterNumber}
+use Rattle.roster.specs.Masks.{signer, replicasFrom, replicasOf}
 
 -- a key of a tree type and a one-time type, with one byte for all others
 key : ℕ → ℕ → ℕ → List ℕ
@@ -25,24 +25,24 @@ fine = key 5 4 1 ∷ key 5 4 2 ∷ key 5 4 3 ∷ []
 sizes : (rosterNumber (take 17 (of 3 fine)) ≡ 2) × (rosterNumber (take 18 (of 3 fine)) ≡ 2) × (rosterNumber (of 2 fine) ≡ 2)
     × (rosterNumber (of 3 fine) ≡ 0) × (rosterNumber (of 259 fine) ≡ 2) × (rosterNumber (take 185 (of 3 fine)) ≡ 2)
     × (rosterNumber (of 3 fine ++ (0 ∷ [])) ≡ 2)
-unfolding of key fine rosterNumber refusal check sized typed single everyBoard boards keyOf treeType oneTimeType all numberAt number be same flatMap
+unfolding of key fine rosterNumber refusal check sized typed single everyReplica replicas keyOf treeType oneTimeType all numberAt number be same flatMap
 sizes = (refl, refl, refl, refl, refl, refl, refl)
 
 -- 3: a one-time type other than 4, a tree type outside 5 to 9, two tree types; type 9 for all is fine
 types : (rosterNumber (of 3 (key 5 4 1 ∷ key 5 3 2 ∷ key 5 4 3 ∷ [])) ≡ 3) × (rosterNumber (of 3 (key 4 4 1 ∷ key 4 4 2 ∷ key 4 4 3 ∷ [])) ≡ 3)
     × (rosterNumber (of 3 (key 10 4 1 ∷ key 10 4 2 ∷ key 10 4 3 ∷ [])) ≡ 3) × (rosterNumber (of 3 (key 5 4 1 ∷ key 5 4 2 ∷ key 6 4 3 ∷ [])) ≡ 3)
     × (rosterNumber (of 3 (key 9 4 1 ∷ key 9 4 2 ∷ key 9 4 3 ∷ [])) ≡ 0)
-unfolding of key fine rosterNumber refusal check sized typed single everyBoard boards keyOf treeType oneTimeType all numberAt number be same flatMap
+unfolding of key fine rosterNumber refusal check sized typed single everyReplica replicas keyOf treeType oneTimeType all numberAt number be same flatMap
 types = (refl, refl, refl, refl, refl)
 
--- 4: two boards with one key, wherever they stand
+-- 4: two replicas with one key, wherever they stand
 duplicates : (rosterNumber (of 3 (key 5 4 1 ∷ key 5 4 1 ∷ key 5 4 3 ∷ [])) ≡ 4) × (rosterNumber (of 3 (key 5 4 1 ∷ key 5 4 2 ∷ key 5 4 1 ∷ [])) ≡ 4)
     × (rosterNumber (of 3 (key 5 4 1 ∷ key 5 4 2 ∷ key 5 4 2 ∷ [])) ≡ 4)
-unfolding of key fine rosterNumber refusal check sized typed single everyBoard boards keyOf treeType oneTimeType all numberAt number be same flatMap
+unfolding of key fine rosterNumber refusal check sized typed single everyReplica replicas keyOf treeType oneTimeType all numberAt number be same flatMap
 duplicates = (refl, refl, refl)
 
--- bit k - 1 is board k; boards rise; all sixteen bits count, and no more than those
-bits : (boardsOf 0 ≡ []) × (boardsOf 0b1101 ≡ 1 ∷ 3 ∷ 4 ∷ []) × (boardsOf 0x8001 ≡ 1 ∷ 16 ∷ []) × (signer 0b1101 3 ≡ true) × (signer 0b1101 2 ≡ false)
+-- bit k - 1 is replica k; replicas rise; all sixteen bits count, and no more than those
+bits : (replicasOf 0 ≡ []) × (replicasOf 0b1101 ≡ 1 ∷ 3 ∷ 4 ∷ []) × (replicasOf 0x8001 ≡ 1 ∷ 16 ∷ []) × (signer 0b1101 3 ≡ true) × (signer 0b1101 2 ≡ false)
     × (signer 0xffff 17 ≡ false)
-unfolding boardsOf boardsFrom signer
+unfolding replicasOf replicasFrom signer
 bits = (refl, refl, refl, refl, refl, refl)

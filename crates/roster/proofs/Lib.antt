@@ -2,4 +2,4 @@ pub mod Quorums
 pub mod Accepted
 mod Examples
 pub mod Masks
-pub mod EveryBoard
+pub mod EveryReplica

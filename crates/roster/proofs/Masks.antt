@@ -1,4 +1,4 @@
--- A board whose bit is a one stands in the mask's list of boards: by induction over the bits.
+-- A replica whose bit is a one stands in the mask's list of replicas: by induction over the bits.
 -- Assumes nothing.
 use mathlib.Core.Path.{_≡_}
 use mathlib.Core.Bool.{true, false, cond}
@@ -10,11 +10,11 @@ use native.Mathlib.Omega.{arith}
 use borrow.Author.Tests.{eq-eqb, eqb-true}
 use lib.Dec.{eqb}
 use Rattle.refusal.proofs.Laws.{look}
-use Rattle.roster.specs.Masks.{signer, boardsFrom, boardsOf}
+use Rattle.roster.specs.Masks.{signer, replicasFrom, replicasOf}
 use Rattle.roster.proofs.Quorums.{shift}
 
-listed-from : (bits k mask j : ℕ) → j < bits → mask / 2 ^ j % 2 ≡ 1 → List·Memᴰ (k + j) (boardsFrom bits k mask)
-unfolding boardsFrom
+listed-from : (bits k mask j : ℕ) → j < bits → mask / 2 ^ j % 2 ≡ 1 → List·Memᴰ (k + j) (replicasFrom bits k mask)
+unfolding replicasFrom
 listed-from zero k mask j h e = absurd (omega arith)
 listed-from (suc bits) k mask zero h e =
     let odd : mask % 2 ≡ 1 = rw div-one at e in
@@ -23,13 +23,13 @@ listed-from (suc bits) k mask zero h e =
 listed-from (suc bits) k mask (suc j) h e = go (look (eqb (mask % 2) 1))
     (Memᴰ·cast (omega arith) (listed-from bits (suc k) (mask / 2) j (omega arith) (rw (shift mask j) at e)))
   where
-    go : (eqb (mask % 2) 1 ≡ true) ⊎ (eqb (mask % 2) 1 ≡ false) → List·Memᴰ (k + suc j) (boardsFrom bits (suc k) (mask / 2))
-        → List·Memᴰ (k + suc j) (cond (eqb (mask % 2) 1) (k ∷ boardsFrom bits (suc k) (mask / 2)) (boardsFrom bits (suc k) (mask / 2)))
+    go : (eqb (mask % 2) 1 ≡ true) ⊎ (eqb (mask % 2) 1 ≡ false) → List·Memᴰ (k + suc j) (replicasFrom bits (suc k) (mask / 2))
+        → List·Memᴰ (k + suc j) (cond (eqb (mask % 2) 1) (k ∷ replicasFrom bits (suc k) (mask / 2)) (replicasFrom bits (suc k) (mask / 2)))
     go (inl o) m = rw o (List·Memᴰ·tail m)
     go (inr o) m = rw o m
 
-pub listed : (mask k : ℕ) → 0 < k → k ≤ 16 → signer mask k ≡ true → List·Memᴰ k (boardsOf mask)
-unfolding signer boardsOf
+pub listed : (mask k : ℕ) → 0 < k → k ≤ 16 → signer mask k ≡ true → List·Memᴰ k (replicasOf mask)
+unfolding signer replicasOf
 listed mask k p h e = Memᴰ·cast (omega arith) (listed-from 16 1 mask (k - 1) (omega arith) (eqb-true _ 1 e))
 
 -- a mask with a signer is not 0

@@ -41,7 +41,7 @@ pub quorums-meet : (n a b : ℕ) → 0 < n → a < 2 ^ n → b < 2 ^ n → quoru
 quorums-meet n a b h ha hb qa qb =
     omega (arith, ones-either-both a b, quorum-twice n h, ones-le n (bitOr a b) (or-lt n a b ha hb))
 
--- ---- a board in both
+-- ---- a replica in both
 
 half-lt-pow : (n m : ℕ) → m < 2 ^ suc n → m / 2 < 2 ^ n
 half-lt-pow n m h = div-lt-iff-lt-mul (lit< tt) .1 (rw (← pow-suc 2 n) h)
@@ -80,7 +80,7 @@ both-bits a b j e =
     let step = and-step x y in omega (arith, step, ap (λ (m : ℕ). m % 2) (and-shr a b j), e) in
     (omega arith, omega arith)
 
--- two quorums share a board
+-- two quorums share a replica
 pub quorums-share : (n a b : ℕ) → 0 < n → a < 2 ^ n → b < 2 ^ n → quorum n ≤ ones a → quorum n ≤ ones b
     → (k : ℕ) × (0 < k) × (k ≤ n) × (signer a k ≡ true) × (signer b k ≡ true)
 unfolding signer

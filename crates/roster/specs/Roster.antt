@@ -22,14 +22,14 @@ unfoldable pub cluster : List ℕ → List ℕ
 cluster roster = take nameSize roster
 
 -- n
-unfoldable pub boards : List ℕ → ℕ
-boards roster = numberAt 2 roster nameSize
+unfoldable pub replicas : List ℕ → ℕ
+replicas roster = numberAt 2 roster nameSize
 
 -- q = n - f, with f = (n - 1) / 2 rounded down
 unfoldable pub quorum : ℕ → ℕ
 quorum n = n - (n - 1) / 2
 
--- key k belongs to board k, from 1
+-- key k belongs to replica k, from 1
 unfoldable pub keyOf : List ℕ → ℕ → List ℕ
 keyOf roster k = take keySize (drop (headSize + keySize * (k - 1)) roster)
 
@@ -51,15 +51,15 @@ signatureSize roster = signatureLength (row 8 34 0) (levels (height (treeType (k
 
 -- ---- the checks
 
--- the test holds of every board from 1 to n
-unfoldable pub everyBoard : ℕ → (ℕ → Bool) → Bool
-everyBoard zero test = true
-everyBoard (suc n) test = cond (test (suc n)) (everyBoard n test) false
+-- the test holds of every replica from 1 to n
+unfoldable pub everyReplica : ℕ → (ℕ → Bool) → Bool
+everyReplica zero test = true
+everyReplica (suc n) test = cond (test (suc n)) (everyReplica n test) false
 
 -- 2: 18 bytes or more, n from 3 to 9, and the length is 18 + 56 × n
 unfoldable pub sized : List ℕ → Bool
 sized roster =
-    let n = boards roster in
+    let n = replicas roster in
     all (leb headSize (length roster) ∷ leb 3 n ∷ leb n 9 ∷ eqb (length roster) (headSize + keySize * n) ∷ [])
 
 -- 3: one-time type 4, and one tree type, from 5 to 9
@@ -71,12 +71,12 @@ typed roster k =
     eqb (treeType key) (treeType (keyOf roster 1)) ∷ []
     )
 
--- 4: board k's key is not that of a board before it
+-- 4: replica k's key is not that of a replica before it
 unfoldable pub single : List ℕ → ℕ → Bool
-single roster k = everyBoard (k - 1) (λ j. not (same (keyOf roster j) (keyOf roster k)))
+single roster k = everyReplica (k - 1) (λ j. not (same (keyOf roster j) (keyOf roster k)))
 
 -- 0, or the roster's refusal
 unfoldable pub rosterNumber : List ℕ → ℕ
 rosterNumber roster =
-    let n = boards roster in
-    refusal (check 2 (sized roster) ∷ check 3 (everyBoard n (typed roster)) ∷ check 4 (everyBoard n (single roster)) ∷ [])
+    let n = replicas roster in
+    refusal (check 2 (sized roster) ∷ check 3 (everyReplica n (typed roster)) ∷ check 4 (everyReplica n (single roster)) ∷ [])

@@ -19,14 +19,14 @@ const PATH_AT: usize = 8 + 32 * (34 + 1) + 4;
 pub const MASK_BITS: usize = 16;
 
 // n, of both bytes.
-pub fn boards(roster: &[u8]) -> usize
+pub fn replicas(roster: &[u8]) -> usize
     requires { ⌜ paper.headSize ≤ length (now roster) ⌝ }
-    ensures { λ r. ⌜ (r ≡ paper.boards (now (roster .entry))) × (r < 65536) ⌝ }
+    ensures { λ r. ⌜ (r ≡ paper.replicas (now (roster .entry))) × (r < 65536) ⌝ }
 {
     words::u16_at(roster, NAME_SIZE) as usize
 }
 
-// The boards that make a quorum.
+// The replicas that make a quorum.
 pub fn quorum(n: usize) -> u32
     requires { ⌜ (0 < n) × (n < 65536) ⌝ }
     ensures { λ r. ⌜ r ≡ paper.quorum n ⌝ }
@@ -45,7 +45,7 @@ pub fn signer(mask: u16, k: usize) -> bool
     (mask >> (k - 1)) % 2 == 1
 }
 
-// The key of board k.
+// The key of replica k.
 pub fn key_of(roster: &[u8], k: usize) -> &[u8]
     requires { ⌜ (0 < k) × (paper.headSize + keySize * k ≤ length (now roster)) ⌝ }
     ensures { λ r. ⌜ (now r ≡ paper.keyOf (now (roster .entry)) k) × (length (now r) ≡ keySize) ⌝ }
@@ -55,7 +55,7 @@ pub fn key_of(roster: &[u8], k: usize) -> &[u8]
     &roster[start..end]
 }
 
-// The tree type of board k's key.
+// The tree type of replica k's key.
 pub fn tree_type(roster: &[u8], k: usize) -> u32
     requires { ⌜ (0 < k) × (paper.headSize + keySize * k ≤ length (now roster)) ⌝ }
     ensures { λ r. ⌜ r ≡ paper.treeType (paper.keyOf (now (roster .entry)) k) ⌝ }

@@ -10,7 +10,7 @@ use lib.ListN.{length}
 use Rattle.refusal.specs.Checks.{all, check, refusal}
 use Rattle.refusal.proofs.Laws.{all-one}
 use Rattle.lm_format.specs.Format.{keySize}
-use Rattle.roster.specs.Roster.{headSize, boards, keyOf, treeType, oneTimeType, everyBoard, sized, typed, single, rosterNumber}
+use Rattle.roster.specs.Roster.{headSize, replicas, keyOf, treeType, oneTimeType, everyReplica, sized, typed, single, rosterNumber}
 
 -- ---- 2
 
@@ -20,16 +20,16 @@ module _ (roster : List ℕ) where
   no-head h = rw (lt-leb _ _ h)
 
   module _ (head : headSize ≤ length roster) where
-    pub few-boards : boards roster < 3 → false ≡ sized roster
+    pub few-replicas : replicas roster < 3 → false ≡ sized roster
     unfolding sized all
-    few-boards h = rw (le-leb _ _ head, lt-leb _ _ h)
+    few-replicas h = rw (le-leb _ _ head, lt-leb _ _ h)
 
-    module _ (low : 3 ≤ boards roster) where
-      pub many-boards : 9 < boards roster → false ≡ sized roster
+    module _ (low : 3 ≤ replicas roster) where
+      pub many-replicas : 9 < replicas roster → false ≡ sized roster
       unfolding sized all
-      many-boards h = rw (le-leb _ _ head, le-leb _ _ low, lt-leb _ _ h)
+      many-replicas h = rw (le-leb _ _ head, le-leb _ _ low, lt-leb _ _ h)
 
-      pub by-length : boards roster ≤ 9 → eqb (length roster) (headSize + keySize * boards roster) ≡ sized roster
+      pub by-length : replicas roster ≤ 9 → eqb (length roster) (headSize + keySize * replicas roster) ≡ sized roster
       unfolding sized all
       by-length h = rw (le-leb _ _ head, le-leb _ _ low, le-leb _ _ h) (all-one _)
 
@@ -62,15 +62,15 @@ module _ (roster : List ℕ) where
   unsized e = rw e
 
   module _ (size : sized roster ≡ true) where
-    pub untyped : everyBoard (boards roster) (typed roster) ≡ false → 3 ≡ rosterNumber roster
+    pub untyped : everyReplica (replicas roster) (typed roster) ≡ false → 3 ≡ rosterNumber roster
     unfolding rosterNumber refusal check
     untyped e = rw (size, e)
 
-    module _ (types : everyBoard (boards roster) (typed roster) ≡ true) where
-      pub duplicate : everyBoard (boards roster) (single roster) ≡ false → 4 ≡ rosterNumber roster
+    module _ (types : everyReplica (replicas roster) (typed roster) ≡ true) where
+      pub duplicate : everyReplica (replicas roster) (single roster) ≡ false → 4 ≡ rosterNumber roster
       unfolding rosterNumber refusal check
       duplicate e = rw (size, types, e)
 
-      pub accept : everyBoard (boards roster) (single roster) ≡ true → 0 ≡ rosterNumber roster
+      pub accept : everyReplica (replicas roster) (single roster) ≡ true → 0 ≡ rosterNumber roster
       unfolding rosterNumber refusal check
       accept e = rw (size, types, e)

@@ -5,7 +5,7 @@ ghost use lib.ListN.{length};
 ghost use Rattle.lm_format.specs.Format.{keySize};
 ghost use Rattle.roster.specs.Roster as paper;
 
-// The boards that a roster may have.
+// The replicas that a roster may have.
 const BOARDS_MIN: usize = 3;
 
 const BOARDS_MAX: usize = 9;
@@ -24,7 +24,7 @@ fn sized(roster: &[u8]) -> bool
     if roster.len() < roster::HEAD_SIZE {
         return false;
     }
-    let n = roster::boards(roster);
+    let n = roster::replicas(roster);
     if n < BOARDS_MIN {
         return false;
     }
@@ -34,7 +34,7 @@ fn sized(roster: &[u8]) -> bool
     roster.len() == roster::HEAD_SIZE + lm_format::KEY_SIZE * n
 }
 
-// The one-time type of board k's key.
+// The one-time type of replica k's key.
 fn one_time_type(roster: &[u8], k: usize) -> u32
     requires { ⌜ (0 < k) × (paper.headSize + keySize * k ≤ length (now roster)) ⌝ }
     ensures { λ r. ⌜ r ≡ paper.oneTimeType (paper.keyOf (now (roster .entry)) k) ⌝ }
@@ -42,7 +42,7 @@ fn one_time_type(roster: &[u8], k: usize) -> u32
     words::u32_at(roster::key_of(roster, k), 4)
 }
 
-// Whether board k's types are allowed, and its tree type is that of board 1.
+// Whether replica k's types are allowed, and its tree type is that of replica 1.
 fn typed(roster: &[u8], k: usize) -> bool
     requires { ⌜ (0 < k) × (paper.headSize + keySize * k ≤ length (now roster)) ⌝ }
     ensures { λ r. ⌜ r ≡ paper.typed (now (roster .entry)) k ⌝ }
@@ -60,11 +60,11 @@ fn typed(roster: &[u8], k: usize) -> bool
     tree == roster::tree_type(roster, 1)
 }
 
-// Whether the types of boards 1 to n are. Rattle has no function parameters, so that this loop and that of
-// `roster_keys::all_single` stand apart; their laws are one (roster/proofs/EveryBoard.antt).
+// Whether the types of replicas 1 to n are. Rattle has no function parameters, so that this loop and that of
+// `roster_keys::all_single` stand apart; their laws are one (roster/proofs/EveryReplica.antt).
 fn all_typed(roster: &[u8], n: usize) -> bool
     requires { ⌜ paper.headSize + keySize * n ≤ length (now roster) ⌝ }
-    ensures { λ r. ⌜ r ≡ paper.everyBoard n (paper.typed (now (roster .entry))) ⌝ }
+    ensures { λ r. ⌜ r ≡ paper.everyReplica n (paper.typed (now (roster .entry))) ⌝ }
 {
     let mut left = n;
     while 0 < left {
@@ -83,7 +83,7 @@ pub fn validate(roster: &[u8]) -> u32
     if !sized(roster) {
         return 2;
     }
-    let n = roster::boards(roster);
+    let n = roster::replicas(roster);
     if !all_typed(roster, n) {
         return 3;
     }

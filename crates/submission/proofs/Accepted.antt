@@ -8,7 +8,7 @@ use lib.Dec.{lit<}
 use lib.ListN.{length}
 use Rattle.refusal.specs.Checks.{every}
 use Rattle.refusal.proofs.Laws.{accepted}
-use Rattle.roster.specs.Roster.{boards, signatureSize}
+use Rattle.roster.specs.Roster.{replicas, signatureSize}
 use Rattle.log_chain.specs.Log.{Form}
 use Rattle.submission.specs.View.{View, leads}
 use Rattle.submission.specs.Reading.{view, laidOut, certificates, certificateEnd, stampsAt}
@@ -43,7 +43,7 @@ pub record Accepted (roster s : List ℕ) : Type 0 where
   pub size : sized s ≡ true
   pub counts : counted s ≡ true
   pub layout : laidOut (formOf roster .termBytes) (signatureSize roster) s ≡ true
-  pub sound : Sound (formOf roster) (boards roster) (viewOf roster s)
+  pub sound : Sound (formOf roster) (replicas roster) (viewOf roster s)
   pub signatures : every (genuine (formOf roster) roster) (slotsOf roster s) ≡ true
 
 pub validated : (roster s : List ℕ) → validate roster s ≡ 0 → Accepted roster s

@@ -12,7 +12,7 @@ use Rattle.words.proofs.Same.{true-same}
 use Rattle.refusal.specs.Checks.{all, every}
 use Rattle.lms.specs.Check.{good}
 use Rattle.roster.specs.Roster.{quorum, keyOf}
-use Rattle.roster.specs.Masks.{signer, boardsFrom, boardsOf}
+use Rattle.roster.specs.Masks.{signer, replicasFrom, replicasOf}
 use Rattle.log_chain.specs.Log.{Form, version1, Record, pointer, pointerFrom, termFrom, lastTerm}
 use Rattle.log_chain.specs.Claim.{Ballot, stamped, received, voted}
 use Rattle.replica.specs.Ends.{rising}
@@ -85,7 +85,7 @@ reading : (slots 1 (view 4 1 (parts ++ trailer 1 1 (95 ∷ 59 ∷ 9 ∷ 8 ∷ []
     ≡ slot 1 (voted vote) (10 ∷ []) ∷ slot 2 (voted vote) (11 ∷ []) ∷ slot 0x1011 (stamped 0x01020304 (logged-one ∷ [])) (12 ∷ [])
     ∷ slot 1 (received 0x01020304 (logged-one ∷ [])) (13 ∷ []) ∷ slot 3 (received 0x01020304 (logged-one ∷ [])) (14 ∷ []) ∷ [])
 unfolding slots view parts logged-one vote vote-bytes form version1 trailer leadersFrom stampsFrom commitFrom commitOf commitAt certificatesEnd certificateEnd certificates certificateAt ballotAt
-    stampsAt signersAt recordSize ballotSize recordsOf leads leadsOf runs runsAfter runsFrom run votesOf stampOf receiptsOf certified slot boardsOf boardsFrom lastTerm termFrom
+    stampsAt signersAt recordSize ballotSize recordsOf leads leadsOf runs runsAfter runsFrom run votesOf stampOf receiptsOf certified slot replicasOf replicasFrom lastTerm termFrom
     distance recordCount leaderCount word numberAt number be flatMap ones onesIn
 reading = refl
 
@@ -132,7 +132,7 @@ counts : (let c = certificate (ballot 1 1 0 0 []) 3 in (oneEach (logged (of 1 �
 unfolding oneEach logged runs runsAfter runsFrom run of lastTerm termFrom
 counts = (refl, refl, refl)
 
--- 13: the first term of a log, of three boards, signers 1 and 2
+-- 13: the first term of a log, of three replicas, signers 1 and 2
 leads-with : ℕ → ℕ → ℕ → ℕ → List ℕ → Bool
 leads-with candidate t u j p =
     leading form 3 (record { certificate = certificate (ballot candidate t u j p) 3; term = run [] (of 4 ∷ []); stamp = [] })

@@ -19,8 +19,8 @@ use Rattle.words.proofs.Members.{joined-mem}
 use Rattle.words.proofs.Same.{same-true}
 use Rattle.refusal.specs.Checks.{every}
 use Rattle.refusal.proofs.Laws.{all-cons, every-mem}
-use Rattle.roster.specs.Roster.{boards, signatureSize}
-use Rattle.roster.specs.Masks.{boardsOf}
+use Rattle.roster.specs.Roster.{replicas, signatureSize}
+use Rattle.roster.specs.Masks.{replicasOf}
 use Rattle.log_chain.specs.Log.{Form, Record, pointer, chainStrings, lastTerm}
 use Rattle.log_chain.specs.Claim.{Claim, stamped, received, voted}
 use Rattle.log_chain.proofs.Fits.{LogFits, empty, more, PlaceFits, BallotFits, ClaimFits}
@@ -129,7 +129,7 @@ module _ (form : Form) (S : ℕ) where
     unfolding receiptsOf
     receipts-speak none x m = absurd (List·Memᴰ·not-nil m)
     receipts-speak (some c) x m =
-        subst (SpeaksOf form log) (sym (certified-claim _ (boardsOf (c .signers)) (c .signatures) x m)) (receipt-speaks (c .index))
+        subst (SpeaksOf form log) (sym (certified-claim _ (replicasOf (c .signers)) (c .signatures) x m)) (receipt-speaks (c .index))
 
     stamps-speak : (l : Lead) → List·Memᴰ (l .term) (runs log) → SpeaksOf form log (stampOf S l .claim)
     unfolding stampOf slot
@@ -142,7 +142,7 @@ module _ (form : Form) (S : ℕ) where
     votes-speak l f x m =
         let vote : SpeaksOf form log (voted (l .certificate .ballot)) =
         record { fits = f; strings = λ y h. absurd (List·Memᴰ·not-nil h) } in
-        subst (SpeaksOf form log) (sym (certified-claim _ (boardsOf (l .certificate .signers)) (l .certificate .signatures) x m)) vote
+        subst (SpeaksOf form log) (sym (certified-claim _ (replicasOf (l .certificate .signers)) (l .certificate .signatures) x m)) vote
 
   -- over the bytes of a submission
   module _ (n : ℕ) (s : List ℕ) (bytes : Bytes s) (room : recordSize (form .termBytes) * recordCount s ≤ length s) (few : recordCount s < 256 ^ 4) where
@@ -188,4 +188,4 @@ unfolding slotsOf viewOf
 accepted-speaks roster s bytes ok x m =
     let form = formOf roster in
     let S = signatureSize roster in
-    slots-speak form S (boards roster) s bytes (records-room form S s (ok .layout)) (records-few s (ok .counts)) (ok .sound .leaders) x m
+    slots-speak form S (replicas roster) s bytes (records-room form S s (ok .layout)) (records-few s (ok .counts)) (ok .sound .leaders) x m

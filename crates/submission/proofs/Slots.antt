@@ -31,15 +31,15 @@ unfolding flatMap
 mem-flatMap f {b = b} (List·Memᴰ·head {xs = xs} e) m = Memᴰ·append-left (flatMap f xs) (subst (λ x. List·Memᴰ b (f x)) e m)
 mem-flatMap f (List·Memᴰ·tail {x = x} h) m = Memᴰ·append-right (f x) (mem-flatMap f h m)
 
--- board k has a signature on the claim
+-- replica k has a signature on the claim
 pub record Stands (xs : List Slot) (k : ℕ) (c : Claim) : Type 0 where
   pub entry : Slot
   pub member : List·Memᴰ entry xs
-  pub board : entry .board ≡ k
+  pub replica : entry .replica ≡ k
   pub claim : entry .claim ≡ c
 
 among : (xs ys : List Slot) (k : ℕ) (c : Claim) → ((x : Slot) → List·Memᴰ x xs → List·Memᴰ x ys) → Stands xs k c → Stands ys k c
-among xs ys k c h s = record { entry = s .entry; member = h (s .entry) (s .member); board = s .board; claim = s .claim }
+among xs ys k c h s = record { entry = s .entry; member = h (s .entry) (s .member); replica = s .replica; claim = s .claim }
 
 -- each signer's signature in a certificate
 signed-by : (S : ℕ) (c : Claim) (ks : List ℕ) (bytes : List ℕ) (k : ℕ) → List·Memᴰ k ks → Stands (certified S c ks bytes) k c
@@ -47,7 +47,7 @@ unfolding certified slot
 signed-by S c [] bytes k m = absurd (List·Memᴰ·not-nil m)
 signed-by S c (j ∷ ks) bytes k m =
     ⊎-elim
-    (λ (e : k ≡ j). record { entry = slot j c (take S bytes); member = List·Memᴰ·head refl; board = sym e; claim = refl })
+    (λ (e : k ≡ j). record { entry = slot j c (take S bytes); member = List·Memᴰ·head refl; replica = sym e; claim = refl })
     (λ h. among _ _ k c (λ x. List·Memᴰ·tail) (signed-by S c ks (drop S bytes) k h))
     (List·Memᴰ·cases-cons m)
 
@@ -106,7 +106,7 @@ module _ (form : Form) (n S : ℕ) (v : View) (sound : Sound form n v) where
             record {
               entry = stampOf S l;
               member = Memᴰ·append-left _ (Memᴰ·append-right (flatMap (votesOf S) (leads v)) (Memᴰ·map (stampOf S) m));
-              board = refl;
+              replica = refl;
               claim = refl;
             };
       }

@@ -10,7 +10,7 @@ use lib.ListN.{length}
 use Rattle.words.specs.BigEndian.{same}
 use Rattle.refusal.specs.Checks.{all, every, check, refusal}
 use Rattle.lms.specs.Check.{good}
-use Rattle.roster.specs.Roster.{cluster, boards, quorum, keyOf, signatureSize}
+use Rattle.roster.specs.Roster.{cluster, replicas, quorum, keyOf, signatureSize}
 use Rattle.roster.specs.Masks.{signer}
 use Rattle.log_chain.specs.Log.{Form, version1, pointer, lastTerm}
 use Rattle.log_chain.specs.Claim.{say}
@@ -51,7 +51,7 @@ counted s = all (leb (recordCount s) recordMost ∷ leb (leaderCount s) leaderMo
 
 -- ---- what it says
 
--- 10: a quorum of signers, and no bit above board n
+-- 10: a quorum of signers, and no bit above replica n
 unfoldable pub quorate : ℕ → ℕ → Bool
 quorate n mask = all (leb (quorum n) (ones mask) ∷ ltb mask (2 ^ n) ∷ [])
 
@@ -88,9 +88,9 @@ unfoldable pub within : Option Commit → ℕ → Bool
 within none H = true
 within (some c) H = all (ltb 0 (c .index) ∷ leb (c .index) H ∷ [])
 
--- 15: the signature is good under the roster's key of its board, on the statement of its certificate or stamp
+-- 15: the signature is good under the roster's key of its replica, on the statement of its certificate or stamp
 unfoldable pub genuine : Form → List ℕ → Slot → Bool
-genuine form roster x = good (keyOf roster (x .board)) (say form (x .claim)) (x .signature)
+genuine form roster x = good (keyOf roster (x .replica)) (say form (x .claim)) (x .signature)
 
 -- ---- the number
 
@@ -108,7 +108,7 @@ slotsOf roster s = slots (signatureSize roster) (viewOf roster s)
 unfoldable pub validate : List ℕ → List ℕ → ℕ
 validate roster s =
     let form = formOf roster in
-    let n = boards roster in
+    let n = replicas roster in
     let v = viewOf roster s in
     refusal (
     check 5 (sized s) ∷ check 6 (versioned s) ∷ check 7 (named (cluster roster) s) ∷ check 8 (counted s) ∷

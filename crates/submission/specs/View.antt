@@ -6,7 +6,7 @@ use mathlib.Core.Option.{Option, some, none}
 use Prim.Native.Nat.{ℕ}
 use lib.Dec.{eqb}
 use lib.ListN.{take, drop}
-use Rattle.roster.specs.Masks.{boardsOf}
+use Rattle.roster.specs.Masks.{replicasOf}
 use Rattle.log_chain.specs.Log.{Record, lastTerm}
 use Rattle.log_chain.specs.Claim.{Ballot, Claim, stamped, received, voted}
 
@@ -82,24 +82,24 @@ committed v = committedBy (v .commit) (v .log)
 
 -- ---- what each signature stands on
 
--- a signature, its board, and what it stands on
+-- a signature, its replica, and what it stands on
 pub record Slot : Type 0 where
-  pub board : ℕ
+  pub replica : ℕ
   pub claim : Claim
   pub signature : List ℕ
 
 unfoldable pub slot : ℕ → Claim → List ℕ → Slot
-slot board claim signature = record { board = board; claim = claim; signature = signature }
+slot replica claim signature = record { replica = replica; claim = claim; signature = signature }
 
 -- S is the bytes of a signature
 module _ (S : ℕ) where
-  -- one signature per signer, in rising board order
+  -- one signature per signer, in rising replica order
   unfoldable pub certified : Claim → List ℕ → List ℕ → List Slot
   certified claim [] bytes = []
   certified claim (k ∷ ks) bytes = slot k claim (take S bytes) ∷ certified claim ks (drop S bytes)
 
   unfoldable pub votesOf : Lead → List Slot
-  votesOf l = let c = l .certificate in certified (voted (c .ballot)) (boardsOf (c .signers)) (c .signatures)
+  votesOf l = let c = l .certificate in certified (voted (c .ballot)) (replicasOf (c .signers)) (c .signatures)
 
   -- the stamp is the candidate's, on the last record of that term in this log
   unfoldable pub stampOf : Lead → Slot
@@ -112,7 +112,7 @@ module _ (S : ℕ) where
   receiptsOf none log = []
   receiptsOf (some c) log =
       let upto = take (c .index) log in
-      certified (received (lastTerm upto) upto) (boardsOf (c .signers)) (c .signatures)
+      certified (received (lastTerm upto) upto) (replicasOf (c .signers)) (c .signatures)
 
   -- all of them, in layout order
   unfoldable pub slots : View → List Slot

@@ -14,7 +14,7 @@ use Rattle.words.proofs.Bytes.{Bytes}
 use Rattle.words.proofs.Laws.{bytes-take, bytes-drop, be-number}
 use Rattle.refusal.specs.Checks.{every}
 use Rattle.roster.specs.Roster.{cluster, rosterNumber}
-use Rattle.roster.specs.Masks.{boardsOf}
+use Rattle.roster.specs.Masks.{replicasOf}
 use Rattle.roster.proofs.Accepted.{key-inside}
 use Rattle.log_chain.specs.Log.{version1, Record, pointer, lastTerm}
 use Rattle.log_chain.specs.Claim.{stamped, received, voted, say, place, ballotBytes}
@@ -69,7 +69,7 @@ vote-said roster s at b h =
 
 -- the signatures on it are the certificate's votes
 pub vote-slots : (roster s : List ℕ) (S at : ℕ) → Bytes s → at + 46 ≤ length s
-    → goodAll roster (3 ∷ cluster roster ++ take 46 (drop at s)) S (boardsOf (numberAt 2 s (at + 46))) (drop (at + 46 + 2) s)
+    → goodAll roster (3 ∷ cluster roster ++ take 46 (drop at s)) S (replicasOf (numberAt 2 s (at + 46))) (drop (at + 46 + 2) s)
     ≡ every (genuine (formOf roster) roster) (ballots S (certificateAt 4 s at))
 unfolding ballots certificateAt ballotSize signersAt
 vote-slots roster s S at b h = rw (vote-said roster s at b h) (goodAll-certified (formOf roster) roster S _ _ _)
@@ -99,7 +99,7 @@ take-records w (suc i) (suc count) s h = rw (take-records w i count (drop (recor
 -- the signatures on a receipt's statement are the commit certificate's
 pub receipt-slots : (roster s : List ℕ) (S at records : ℕ) (p : List ℕ) → numberAt 4 s at ≤ records
     → p ≡ pointer (version1 []) (recordsOf 4 (numberAt 4 s at) s)
-    → goodAll roster (2 ∷ cluster roster ++ be 4 (lastTerm (recordsOf 4 (numberAt 4 s at) s)) ++ be 4 (numberAt 4 s at) ++ p) S (boardsOf (numberAt 2 s (at + 4)))
+    → goodAll roster (2 ∷ cluster roster ++ be 4 (lastTerm (recordsOf 4 (numberAt 4 s at) s)) ++ be 4 (numberAt 4 s at) ++ p) S (replicasOf (numberAt 2 s (at + 4)))
     (drop (at + 6) s)
     ≡ every (genuine (formOf roster) roster) (receiptsOf S (some (commitAt s at)) (recordsOf 4 records s))
 unfolding receiptsOf commitAt signersAt

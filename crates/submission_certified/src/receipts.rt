@@ -7,7 +7,7 @@ ghost use lib.ListN.{length};
 ghost use Rattle.words.specs.BigEndian.{numberAt};
 ghost use Rattle.refusal.specs.Checks.{every};
 ghost use Rattle.sha256.specs.Sha256.{bytesOf};
-ghost use Rattle.roster.specs.Roster.{boards, rosterNumber};
+ghost use Rattle.roster.specs.Roster.{replicas, rosterNumber};
 ghost use Rattle.log_chain.specs.Log as chain;
 ghost use Rattle.submission.specs.View.{receiptsOf};
 ghost use Rattle.submission.specs.Reading.{recordSize, recordsOf, signersAt, commitAt, commitEnd};
@@ -29,7 +29,7 @@ pub fn receipts_good(
     pointer: State,
 ) -> bool
     requires { ⌜ (rosterNumber (now roster) ≡ 0) × (recordSize 4 * records ≤ length (now s)) × (commitEnd size (now s) at ≤ length (now s))
-        × (signersAt (now s) (at + 4) < 2 ^ boards (now roster)) × (numberAt 4 (now s) at ≤ records)
+        × (signersAt (now s) (at + 4) < 2 ^ replicas (now roster)) × (numberAt 4 (now s) at ≤ records)
         × (bytesOf pointer ≡ chain.pointer (chain.version1 []) (recordsOf 4 (numberAt 4 (now s) at) (now s))) ⌝ }
     ensures { λ r. ⌜ r ≡ every (paper.genuine (paper.formOf (now (roster .entry))) (now (roster .entry))) (receiptsOf size (some (commitAt (now (s .entry)) at)) (recordsOf 4 records (now (s .entry)))) ⌝ }
 {

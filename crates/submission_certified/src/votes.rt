@@ -5,7 +5,7 @@ ghost use mathlib.Core.List.{flatMap};
 ghost use Prim.Native.Nat.{_+_, _^_, _≤_, _<_};
 ghost use lib.ListN.{length};
 ghost use Rattle.refusal.specs.Checks.{every};
-ghost use Rattle.roster.specs.Roster.{boards, rosterNumber};
+ghost use Rattle.roster.specs.Roster.{replicas, rosterNumber};
 ghost use Rattle.submission.specs.Reading.{signersAt, ballotSize, certificateAt, certificateEnd, certificates, certificatesEnd};
 ghost use Rattle.submission.specs.Validate as paper;
 ghost use Rattle.submission_certified.specs.Votes.{ballots, quorateAll};
@@ -16,7 +16,7 @@ const VOTE: u8 = 3;
 
 // Whether the votes of the leader certificate at a place are good.
 fn votes_good_at(roster: &[u8], s: &[u8], size: usize, at: usize) -> bool
-    requires { ⌜ (rosterNumber (now roster) ≡ 0) × (signersAt (now s) (at + ballotSize 4) < 2 ^ boards (now roster))
+    requires { ⌜ (rosterNumber (now roster) ≡ 0) × (signersAt (now s) (at + ballotSize 4) < 2 ^ replicas (now roster))
         × (certificateEnd 4 size (now s) at ≤ length (now s)) ⌝ }
     ensures { λ r. ⌜ r ≡ every (paper.genuine (paper.formOf (now (roster .entry))) (now (roster .entry))) (ballots size (certificateAt 4 (now (s .entry)) at)) ⌝ }
 {
@@ -28,7 +28,7 @@ fn votes_good_at(roster: &[u8], s: &[u8], size: usize, at: usize) -> bool
 // Whether the votes of so many leader certificates from a place on are good.
 pub fn votes_good(roster: &[u8], s: &[u8], size: usize, leaders: usize, from: usize) -> bool
     requires { ⌜ (rosterNumber (now roster) ≡ 0) × (certificatesEnd 4 size (now s) leaders from ≤ length (now s))
-        × (quorateAll (boards (now roster)) (certificates 4 size (now s) leaders from) ≡ true) ⌝ }
+        × (quorateAll (replicas (now roster)) (certificates 4 size (now s) leaders from) ≡ true) ⌝ }
     ensures { λ r. ⌜ r ≡ every (paper.genuine (paper.formOf (now (roster .entry))) (now (roster .entry))) (flatMap (ballots size) (certificates 4 size (now (s .entry)) leaders from)) ⌝ }
 {
     let mut left = leaders;

@@ -9,7 +9,7 @@ use lib.Dec.{eqb}
 use lib.ListN.{length}
 use Rattle.refusal.specs.Checks.{every, check, refusal}
 use Rattle.refusal.proofs.Laws.{all-cons, passed}
-use Rattle.roster.specs.Roster.{cluster, boards, signatureSize}
+use Rattle.roster.specs.Roster.{cluster, replicas, signatureSize}
 use Rattle.log_chain.specs.Log.{version1}
 use Rattle.replica.specs.Ends.{rising}
 use Rattle.submission.specs.Trailer.{trailerSize, recordCount, leaderCount}
@@ -22,9 +22,9 @@ use Rattle.submission_checks.specs.Checks.{leaderChecks, logChecks, part
 -- ---- what the checks ask
 
 module _ (roster : List ℕ) (S : ℕ) (s : List ℕ) where
-  pub asked-leading : {n H L from : ℕ} {r : Bool} → n ≡ boards roster → H ≡ recordCount s → L ≡ leaderCount s → from ≡ recordSize 4 * recordCount s
+  pub asked-leading : {n H L from : ℕ} {r : Bool} → n ≡ replicas roster → H ≡ recordCount s → L ≡ leaderCount s → from ≡ recordSize 4 * recordCount s
       → ((name : List ℕ) (stamps : List (List ℕ)) → length stamps ≡ L → r ≡ every (leading (version1 name) n) (leadsOf (certificates 4 S s L from) (runs (recordsOf 4 H s)) stamps))
-      → r ≡ every (leading (formOf roster) (boards roster)) (leads (view 4 S s))
+      → r ≡ every (leading (formOf roster) (replicas roster)) (leads (view 4 S s))
   unfolding leads view formOf leadersFrom
   asked-leading en eH eL ef h =
       rw (en, eH, eL, ef) at (h (cluster roster) (stampsAt S s (leaderCount s) (stampsFrom 4 S s)) (length-stamps 4 S s (leaderCount s) (stampsFrom 4 S s) ∙ sym eL))
@@ -55,7 +55,7 @@ pub trailer-passed : (roster s : List ℕ) {r : ℕ} → sized s ≡ true → ve
 unfolding validate formOf viewOf slotsOf partChecks logChecks leaderChecks version1
 trailer-passed roster s e5 e6 e7 e8 h = h ∙ sym (passed 5 _ _ e5 ∙ passed 6 _ _ e6 ∙ passed 7 _ _ e7 ∙ passed 8 _ _ e8)
 
-pub leaders-passed : (roster : List ℕ) (S : ℕ) (s : List ℕ) → every (leading (formOf roster) (boards roster)) (leads (view 4 S s)) ≡ true
+pub leaders-passed : (roster : List ℕ) (S : ℕ) (s : List ℕ) → every (leading (formOf roster) (replicas roster)) (leads (view 4 S s)) ≡ true
     → within (view 4 S s .commit) (length (view 4 S s .log)) ≡ true → every (genuine (formOf roster) roster) (slots S (view 4 S s)) ≡ true
     → 0 ≡ refusal (leaderChecks roster S s)
 unfolding leaderChecks refusal check

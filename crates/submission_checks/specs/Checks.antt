@@ -3,7 +3,7 @@ use mathlib.Core.List.{List, [], _∷_}
 use Prim.Native.Nat.{ℕ}
 use lib.ListN.{length}
 use Rattle.refusal.specs.Checks.{every, Check, check}
-use Rattle.roster.specs.Roster.{boards}
+use Rattle.roster.specs.Roster.{replicas}
 use Rattle.submission.specs.View.{leads, slots}
 use Rattle.submission.specs.Reading.{view, laidOut}
 use Rattle.submission.specs.Validate.{quorate, masks, ordered, oneEach, leading, within, genuine, formOf}
@@ -13,7 +13,7 @@ module _ (roster : List ℕ) (S : ℕ) (s : List ℕ) where
   unfoldable pub leaderChecks : List Check
   leaderChecks =
       let v = view 4 S s in
-      check 13 (every (leading (formOf roster) (boards roster)) (leads v)) ∷ check 14 (within (v .commit) (length (v .log))) ∷
+      check 13 (every (leading (formOf roster) (replicas roster)) (leads v)) ∷ check 14 (within (v .commit) (length (v .log))) ∷
       check 15 (every (genuine (formOf roster) roster) (slots S v)) ∷ []
 
   -- 11
@@ -23,4 +23,4 @@ module _ (roster : List ℕ) (S : ℕ) (s : List ℕ) where
   -- 9
   unfoldable pub partChecks : List Check
   partChecks =
-      check 9 (laidOut 4 S s) ∷ check 10 (every (quorate (boards roster)) (masks (view 4 S s))) ∷ logChecks
+      check 9 (laidOut 4 S s) ∷ check 10 (every (quorate (replicas roster)) (masks (view 4 S s))) ∷ logChecks

@@ -15,7 +15,7 @@ fn leader_number(roster: &[u8], s: &[u8], size: usize) -> u32
     requires { ⌜ Counted (now roster) size (now s) ⌝ }
     ensures { λ r. ⌜ r ≡ refusal (leaderChecks (now (roster .entry)) size (now (s .entry))) ⌝ }
 {
-    let n = roster::boards(roster);
+    let n = roster::replicas(roster);
     let records = submission_trailer::record_count(s);
     let count = submission_trailer::leader_count(s);
     let from = submission_layout::leaders_from(s);
@@ -54,7 +54,7 @@ fn part_number(roster: &[u8], s: &[u8], size: usize) -> u32
     if !submission_layout::laid_out(s, size) {
         return 9;
     }
-    let n = roster::boards(roster);
+    let n = roster::replicas(roster);
     if !submission_quorums::all_quorate(s, n, size) {
         return 10;
     }

@@ -75,14 +75,14 @@ module _ (b : Ballot) (before : List Record) (p : List ℕ) where
     by-pointer h = rw (eq-eqb _ _ term, eq-eqb _ _ h) (last-test _)
 
 module _ (n signers k : ℕ) where
-  pub no-board : k < 1 → false ≡ elected n signers k
+  pub no-replica : k < 1 → false ≡ elected n signers k
   unfolding elected all
-  no-board h = rw (lt-leb _ _ h)
+  no-replica h = rw (lt-leb _ _ h)
 
   module _ (low : 1 ≤ k) where
-    pub above-boards : n < k → false ≡ elected n signers k
+    pub above-replicas : n < k → false ≡ elected n signers k
     unfolding elected all
-    above-boards h = rw (le-leb _ _ low, lt-leb _ _ h)
+    above-replicas h = rw (le-leb _ _ low, lt-leb _ _ h)
 
     pub by-signer : k ≤ n → signer signers k ≡ elected n signers k
     unfolding elected all

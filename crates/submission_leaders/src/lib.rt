@@ -9,7 +9,7 @@ ghost use Rattle.log_chain.specs.Log.{version1, pointer};
 ghost use Rattle.submission.specs.View.{run, runs, leadsOf};
 ghost use Rattle.submission.specs.Reading.{recordSize, recordsOf, ballotAt, signersAt, ballotSize, certificateAt, certificateEnd, certificates, certificatesEnd};
 ghost use Rattle.submission_leaders.specs.Leads as parts;
-ghost use Rattle.submission.specs.Validate as rule;
+ghost use Rattle.submission.specs.Validate as paper;
 use sha256::State;
 use submission::BALLOT_SIZE;
 use submission::LAST_INDEX_AT;
@@ -53,7 +53,7 @@ fn elected(s: &[u8], at: usize, n: usize) -> bool
 // Whether the certificate at a place is that of the term after record i, which ends with record `end`.
 fn leading(s: &[u8], n: usize, at: usize, i: usize, end: usize, before: State) -> bool
     requires { ⌜ (at + ballotSize 4 + 2 ≤ length (now s)) × (recordSize 4 * i ≤ length (now s)) × (recordSize 4 * end ≤ length (now s)) × (bytesOf before ≡ pointer (version1 []) (recordsOf 4 i (now s))) ⌝ }
-    ensures { λ r. ⌜ ((name stamp : List ℕ) → r ≡ rule.leading (version1 name) n (record { certificate = certificateAt 4 (now (s .entry)) at; term = run (recordsOf 4 i (now (s .entry))) (recordsOf 4 end (now (s .entry))); stamp = stamp })) ⌝ }
+    ensures { λ r. ⌜ ((name stamp : List ℕ) → r ≡ paper.leading (version1 name) n (record { certificate = certificateAt 4 (now (s .entry)) at; term = run (recordsOf 4 i (now (s .entry))) (recordsOf 4 end (now (s .entry))); stamp = stamp })) ⌝ }
 {
     if words::u32_at(s, at + TERM_AT) != log_terms::last_term(s, end) {
         return false;
@@ -83,8 +83,8 @@ pub fn all_leading(
     leaders: usize,
     at: usize,
 ) -> bool
-    requires { ⌜ (records ≤ rule.recordMost) × (recordSize 4 * records ≤ length (now s)) × (leaders ≡ length (runs (recordsOf 4 records (now s)))) × (certificatesEnd 4 size (now s) leaders at ≤ length (now s)) ⌝ }
-    ensures { λ r. ⌜ ((name : List ℕ) (stamps : List (List ℕ)) → length stamps ≡ leaders → r ≡ every (rule.leading (version1 name) n) (leadsOf (certificates 4 size (now (s .entry)) leaders at) (runs (recordsOf 4 records (now (s .entry)))) stamps)) ⌝ }
+    requires { ⌜ (records ≤ paper.recordMost) × (recordSize 4 * records ≤ length (now s)) × (leaders ≡ length (runs (recordsOf 4 records (now s)))) × (certificatesEnd 4 size (now s) leaders at ≤ length (now s)) ⌝ }
+    ensures { λ r. ⌜ ((name : List ℕ) (stamps : List (List ℕ)) → length stamps ≡ leaders → r ≡ every (paper.leading (version1 name) n) (leadsOf (certificates 4 size (now (s .entry)) leaders at) (runs (recordsOf 4 records (now (s .entry)))) stamps)) ⌝ }
 {
     let mut left = leaders;
     let mut place = at;

@@ -12,7 +12,7 @@ ghost use Rattle.submission.specs.Validate as paper;
 use submission_commit::CommitPart;
 use submission_reader::Reading;
 
-// Whether a mask has a quorum of n boards, and no bit above board n.
+// Whether a mask has a quorum of n replicas, and no bit above replica n.
 pub fn quorate(n: usize, mask: u16) -> bool
     requires { ⌜ (0 < n) × (n ≤ 9) ⌝ }
     ensures { λ r. ⌜ r ≡ paper.quorate n mask ⌝ }

@@ -6,7 +6,7 @@ ghost use lib.Count.{ones};
 ghost use lib.ListN.{length};
 ghost use Rattle.submission.specs.Reading.{certificateEnd, certificatesEnd, commitEnd};
 ghost use Rattle.submission.specs.Validate.{submissionMost};
-ghost use Rattle.submission_reader.specs.Reader as paper;
+ghost use Rattle.submission_reader.specs.Reader as inner;
 use submission::BALLOT_SIZE;
 use submission::COMMIT_FIELDS_SIZE;
 use submission::COMMIT_SIGNERS_AT;
@@ -50,15 +50,15 @@ pub enum CommitReading {
 
 // The bytes of a mask's signatures: one for each of the ones among its sixteen bits.
 fn signatures_size(mask: u16, size: usize) -> usize
-    requires { ⌜ size ≤ paper.signatureMost ⌝ }
-    ensures { λ r. ⌜ (r ≡ size * ones mask) × (r ≤ 16 * paper.signatureMost) ⌝ }
+    requires { ⌜ size ≤ inner.signatureMost ⌝ }
+    ensures { λ r. ⌜ (r ≡ size * ones mask) × (r ≤ 16 * inner.signatureMost) ⌝ }
 {
     size * (u16::count_ones(mask) as usize)
 }
 
 // The place after the leader certificate at a place, which may lie outside. Where it is known to lie inside, that of `leadership` needs no other bound.
 pub fn certificate_end(s: &[u8], at: usize, size: usize) -> usize
-    requires { ⌜ (at + paper.fieldsSize ≤ length (now s)) × (length (now s) ≤ submissionMost) × (size ≤ paper.signatureMost) ⌝ }
+    requires { ⌜ (at + inner.fieldsSize ≤ length (now s)) × (length (now s) ≤ submissionMost) × (size ≤ inner.signatureMost) ⌝ }
     ensures { λ r. ⌜ r ≡ certificateEnd 4 size (now (s .entry)) at ⌝ }
 {
     let end = at + BALLOT_SIZE;
@@ -67,8 +67,8 @@ pub fn certificate_end(s: &[u8], at: usize, size: usize) -> usize
 
 // The leader certificate at a place.
 pub fn read(s: &[u8], at: usize, end: usize, size: usize) -> Reading
-    requires { ⌜ (at ≤ end) × (end ≤ length (now s)) × (length (now s) ≤ submissionMost) × (size ≤ paper.signatureMost) ⌝ }
-    ensures { λ r. ⌜ (r ≡ paper.reading size (now (s .entry)) at end) × (paper.readingNumber r ≡ paper.endNumber (certificateEnd 4 size (now (s .entry)) at) end) ⌝ }
+    requires { ⌜ (at ≤ end) × (end ≤ length (now s)) × (length (now s) ≤ submissionMost) × (size ≤ inner.signatureMost) ⌝ }
+    ensures { λ r. ⌜ (r ≡ inner.reading size (now (s .entry)) at end) × (inner.readingNumber r ≡ inner.endNumber (certificateEnd 4 size (now (s .entry)) at) end) ⌝ }
 {
     if end < at + BALLOT_SIZE + SIGNERS_SIZE {
         return Reading::Refused;
@@ -83,8 +83,8 @@ pub fn read(s: &[u8], at: usize, end: usize, size: usize) -> Reading
 
 // The numbers of the leader certificate at a place.
 pub fn numbers_at(s: &[u8], at: usize) -> Certificate
-    requires { ⌜ (at + paper.fieldsSize ≤ length (now s)) × (length (now s) ≤ submissionMost) ⌝ }
-    ensures { λ r. ⌜ r ≡ paper.numbersAt (now (s .entry)) at ⌝ }
+    requires { ⌜ (at + inner.fieldsSize ≤ length (now s)) × (length (now s) ≤ submissionMost) ⌝ }
+    ensures { λ r. ⌜ r ≡ inner.numbersAt (now (s .entry)) at ⌝ }
 {
     Certificate {
         candidate: words::u16_at(s, at),
@@ -97,9 +97,9 @@ pub fn numbers_at(s: &[u8], at: usize) -> Certificate
 
 // The place after so many leader certificates from a place on.
 pub fn place_after(s: &[u8], count: usize, from: usize, end: usize, size: usize) -> Place
-    requires { ⌜ (from ≤ end) × (end ≤ length (now s)) × (length (now s) ≤ submissionMost) × (size ≤ paper.signatureMost) ⌝ }
-    ensures { λ r. ⌜ (r ≡ paper.placeAfter size (now (s .entry)) count from end)
-        × (paper.placeNumber r ≡ paper.endNumber (certificatesEnd 4 size (now (s .entry)) count from) end) ⌝ }
+    requires { ⌜ (from ≤ end) × (end ≤ length (now s)) × (length (now s) ≤ submissionMost) × (size ≤ inner.signatureMost) ⌝ }
+    ensures { λ r. ⌜ (r ≡ inner.placeAfter size (now (s .entry)) count from end)
+        × (inner.placeNumber r ≡ inner.endNumber (certificatesEnd 4 size (now (s .entry)) count from) end) ⌝ }
 {
     let mut at = from;
     let mut left = count;
@@ -115,8 +115,8 @@ pub fn place_after(s: &[u8], count: usize, from: usize, end: usize, size: usize)
 
 // The commit certificate at a place.
 pub fn read_commit(s: &[u8], at: usize, end: usize, size: usize) -> CommitReading
-    requires { ⌜ (at ≤ end) × (end ≤ length (now s)) × (length (now s) ≤ submissionMost) × (size ≤ paper.signatureMost) ⌝ }
-    ensures { λ r. ⌜ (r ≡ paper.commitReading size (now (s .entry)) at end) × (paper.commitReadingNumber r ≡ paper.endNumber (commitEnd size (now (s .entry)) at) end) ⌝ }
+    requires { ⌜ (at ≤ end) × (end ≤ length (now s)) × (length (now s) ≤ submissionMost) × (size ≤ inner.signatureMost) ⌝ }
+    ensures { λ r. ⌜ (r ≡ inner.commitReading size (now (s .entry)) at end) × (inner.commitReadingNumber r ≡ inner.endNumber (commitEnd size (now (s .entry)) at) end) ⌝ }
 {
     if end < at + COMMIT_FIELDS_SIZE {
         return CommitReading::Refused;

@@ -14,7 +14,7 @@ use lib.ListN.{length}
 use Rattle.words.specs.BigEndian.{numberAt}
 use Rattle.refusal.specs.Checks.{every}
 use Rattle.refusal.proofs.Laws.{look, all-cons, cond-true, every-append}
-use Rattle.roster.specs.Roster.{boards}
+use Rattle.roster.specs.Roster.{replicas}
 use Rattle.submission.specs.Trailer.{recordCount, leaderCount, distance}
 use Rattle.submission.specs.View.{runs}
 use Rattle.submission.specs.Reading.{recordSize, recordsOf, signersAt, certificates, certificatesEnd, commitAt, commitEnd, leadersFrom, commitFrom, commitOf, view}
@@ -43,17 +43,17 @@ module _ (roster : List ℕ) (S : ℕ) (s : List ℕ) where
 
     -- ---- signers
 
-    both : (quorateAll (boards roster) (view 4 S s .leaders) ≡ true) × (every (quorate (boards roster)) (commitSigners (view 4 S s .commit)) ≡ true)
+    both : (quorateAll (replicas roster) (view 4 S s .leaders) ≡ true) × (every (quorate (replicas roster)) (commitSigners (view 4 S s .commit)) ≡ true)
     unfolding masks quorateAll
-    both = cond-true _ _ (sym (every-append (quorate (boards roster)) (map (λ c. c .signers) (view 4 S s .leaders)) (commitSigners (view 4 S s .commit))) ∙ laid .quorums)
+    both = cond-true _ _ (sym (every-append (quorate (replicas roster)) (map (λ c. c .signers) (view 4 S s .leaders)) (commitSigners (view 4 S s .commit))) ∙ laid .quorums)
 
-    pub leaders-quorate : quorateAll (boards roster) (certificates 4 S s (leaderCount s) (recordSize 4 * recordCount s)) ≡ true
+    pub leaders-quorate : quorateAll (replicas roster) (certificates 4 S s (leaderCount s) (recordSize 4 * recordCount s)) ≡ true
     unfolding view leadersFrom
     leaders-quorate = both .0
 
-    pub commit-signers : (at : ℕ) → commitOf 4 S s ≡ some (commitAt s at) → signersAt s (at + 4) < 2 ^ boards roster
+    pub commit-signers : (at : ℕ) → commitOf 4 S s ≡ some (commitAt s at) → signersAt s (at + 4) < 2 ^ replicas roster
     unfolding view commitSigners commitAt every
-    commit-signers at e = quorate-facts (boards roster) (signersAt s (at + 4)) (cond-true _ _ (rw e at (both .1)) .0) .1
+    commit-signers at e = quorate-facts (replicas roster) (signersAt s (at + 4)) (cond-true _ _ (rw e at (both .1)) .0) .1
 
     -- a commit certificate ends inside
     pub commit-end-in : (at : ℕ) → at ≡ commitFrom 4 S s → commitOf 4 S s ≡ some (commitAt s at) → commitEnd S s at ≤ length s

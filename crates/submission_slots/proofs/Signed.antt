@@ -16,7 +16,7 @@ use Rattle.sha256.specs.Service.{limit, tooLong}
 use Rattle.lm_answer.specs.declared.Answer.the-variants.{Good, Bad, Long}
 use Rattle.lms.specs.Check.{good, answer}
 use Rattle.roster.specs.Roster.{keyOf}
-use Rattle.roster.specs.Masks.{boardsFrom, boardsOf}
+use Rattle.roster.specs.Masks.{replicasFrom, replicasOf}
 use Rattle.log_chain.specs.Log.{Form}
 use Rattle.log_chain.specs.Claim.{Claim, say}
 use Rattle.submission.specs.View.{certified, slot}
@@ -61,13 +61,13 @@ unfolding goodAll every certified genuine slot
 goodAll-certified form roster S claim [] bytes = refl
 goodAll-certified form roster S claim (k ∷ ks) bytes = rw (goodAll-certified form roster S claim ks (drop S bytes))
 
--- the boards that are left after the first k, for the bits that are left, whose signatures begin at a place
+-- the replicas that are left after the first k, for the bits that are left, whose signatures begin at a place
 module _ (roster message : List ℕ) (S : ℕ) (s : List ℕ) where
   unfoldable pub goodFrom : ℕ → ℕ → ℕ → Bool
-  goodFrom k rest from = goodAll roster message S (boardsFrom (16 - k) (suc k) rest) (drop from s)
+  goodFrom k rest from = goodAll roster message S (replicasFrom (16 - k) (suc k) rest) (drop from s)
 
-  pub goodFrom-all : (mask at : ℕ) → goodFrom 0 mask at ≡ goodAll roster message S (boardsOf mask) (drop at s)
-  unfolding goodFrom boardsOf
+  pub goodFrom-all : (mask at : ℕ) → goodFrom 0 mask at ≡ goodAll roster message S (replicasOf mask) (drop at s)
+  unfolding goodFrom replicasOf
   goodFrom-all mask at = refl
 
   module _ (k rest from : ℕ) {b : Bool} (left : goodFrom k rest from ≡ b) where
@@ -76,12 +76,12 @@ module _ (roster message : List ℕ) (S : ℕ) (s : List ℕ) where
       bits = omega arith
 
       pub absent : (rest % 2 ≡ 1 → ⊥) → goodFrom (k + 1) (rest / 2) from ≡ b
-      unfolding goodFrom boardsFrom
+      unfolding goodFrom replicasFrom
       absent e = rw add-one (rw (bits, ne-eqb _ _ e, add-one) at left)
 
       module _ (odd : rest % 2 ≡ 1) {r : Bool} (asked : r ≡ good (keyOf roster (k + 1)) message (take S (drop from s))) where
         first : cond r (goodFrom (k + 1) (rest / 2) (from + S)) false ≡ b
-        unfolding goodFrom boardsFrom goodAll
+        unfolding goodFrom replicasFrom goodAll
         first = rw (asked, add-one) (rw (bits, eq-eqb _ _ odd, drop-drop, add-one) at left)
 
         pub wrong : not r ≡ true → false ≡ b
@@ -91,13 +91,13 @@ module _ (roster message : List ℕ) (S : ℕ) (s : List ℕ) where
         right e = rw (not-false r e) at first
 
     pub none-left : 16 ≤ k → true ≡ b
-    unfolding goodFrom boardsFrom goodAll
+    unfolding goodFrom replicasFrom goodAll
     none-left h = let none : 16 - k ≡ 0 = omega arith in rw none at left
 
--- ---- the boards of a mask of n bits are at most n, and their signatures lie inside
+-- ---- the replicas of a mask of n bits are at most n, and their signatures lie inside
 
-pub board-inside : (n k rest : ℕ) → rest < 2 ^ (n - k) → rest % 2 ≡ 1 → k + 1 ≤ n
-board-inside n k rest h e = go (n - k) refl h
+pub replica-inside : (n k rest : ℕ) → rest < 2 ^ (n - k) → rest % 2 ≡ 1 → k + 1 ≤ n
+replica-inside n k rest h e = go (n - k) refl h
   where
     go : (d : ℕ) → n - k ≡ d → rest < 2 ^ d → k + 1 ≤ n
     go zero p q = absurd (omega arith)

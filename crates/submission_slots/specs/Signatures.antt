@@ -6,7 +6,7 @@ use lib.ListN.{take, drop}
 use Rattle.lms.specs.Check.{good}
 use Rattle.roster.specs.Roster.{keyOf}
 
--- one signature of S bytes per board, each good under its board's key
+-- one signature of S bytes per replica, each good under its replica's key
 unfoldable pub goodAll : List ℕ → List ℕ → ℕ → List ℕ → List ℕ → Bool
 goodAll roster message S [] bytes = true
 goodAll roster message S (k ∷ ks) bytes =

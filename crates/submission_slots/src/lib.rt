@@ -6,12 +6,12 @@ ghost use lib.ListN.{length, drop};
 ghost use Rattle.sha256.specs.Service.{limit};
 ghost use Rattle.lm_format.specs.Format.{keySize};
 ghost use Rattle.lms.specs.Check.{good};
-ghost use Rattle.roster.specs.Roster.{headSize, boards, keyOf, rosterNumber};
-ghost use Rattle.roster.specs.Masks.{boardsOf};
+ghost use Rattle.roster.specs.Roster.{headSize, replicas, keyOf, rosterNumber};
+ghost use Rattle.roster.specs.Masks.{replicasOf};
 ghost use Rattle.submission_slots.specs.Signatures.{goodAll};
 use lm_answer::Answer;
 
-// Whether a signature is board k's on a message.
+// Whether a signature is replica k's on a message.
 pub fn genuine(roster: &[u8], k: usize, message: &[u8], signature: &[u8]) -> bool
     requires { ⌜ (0 < k) × (headSize + keySize * k ≤ length (now roster)) × (length (now message) ≤ limit) ⌝ }
     ensures { λ r. ⌜ r ≡ good (keyOf (now (roster .entry)) k) (now (message .entry)) (now (signature .entry)) ⌝ }
@@ -23,11 +23,11 @@ pub fn genuine(roster: &[u8], k: usize, message: &[u8], signature: &[u8]) -> boo
     }
 }
 
-// Whether the signatures from a place on are those of a mask's boards on a message, one each.
+// Whether the signatures from a place on are those of a mask's replicas on a message, one each.
 pub fn all_good(roster: &[u8], message: &[u8], mask: u16, s: &[u8], at: usize, size: usize) -> bool
-    requires { ⌜ (rosterNumber (now roster) ≡ 0) × (length (now message) ≤ limit) × (mask < 2 ^ boards (now roster))
+    requires { ⌜ (rosterNumber (now roster) ≡ 0) × (length (now message) ≤ limit) × (mask < 2 ^ replicas (now roster))
         × (at + size * ones mask ≤ length (now s)) ⌝ }
-    ensures { λ r. ⌜ r ≡ goodAll (now (roster .entry)) (now (message .entry)) size (boardsOf mask) (drop at (now (s .entry))) ⌝ }
+    ensures { λ r. ⌜ r ≡ goodAll (now (roster .entry)) (now (message .entry)) size (replicasOf mask) (drop at (now (s .entry))) ⌝ }
 {
     let mut k = 0;
     let mut rest = mask;

@@ -15,7 +15,7 @@ use Rattle.words.proofs.Same.{same-true}
 use Rattle.refusal.specs.Checks.{every}
 use Rattle.refusal.proofs.Laws.{all-cons, cond-true}
 use Rattle.lms.specs.Check.{good}
-use Rattle.roster.specs.Roster.{cluster, boards, keyOf}
+use Rattle.roster.specs.Roster.{cluster, replicas, keyOf}
 use Rattle.log_chain.specs.Log.{version1, Record, pointer, lastTerm}
 use Rattle.log_chain.proofs.Pointers.{pointer-name}
 use Rattle.submission.specs.View.{Run, run, runsFrom, runsAfter, runs, Lead, leadsOf, stampOf, slot}
@@ -55,9 +55,9 @@ module _ (roster s : List ℕ) (S : ℕ) where
     pub index : numberAt 4 s (at + 10) ≡ length (r .before)
     pub pointed : take 32 (drop (at + 14) s) ≡ pointer (version1 []) (r .before)
     pub low : 0 < numberAt 2 s at
-    pub high : numberAt 2 s at ≤ boards roster
+    pub high : numberAt 2 s at ≤ replicas roster
 
-  lead-facts : (at stamp : ℕ) (r : Run) → leading (formOf roster) (boards roster) (leadAt at stamp r) ≡ true → Leads at r
+  lead-facts : (at stamp : ℕ) (r : Run) → leading (formOf roster) (replicas roster) (leadAt at stamp r) ≡ true → Leads at r
   unfolding leading leadAt certificateAt ballotAt formOf
   lead-facts at stamp r e =
       let e1 = all-cons _ _ e in
@@ -73,7 +73,7 @@ module _ (roster s : List ℕ) (S : ℕ) where
         index = rw place (eqb-true _ _ (e3 .0));
         pointed = rw after (same-true _ _ (e4 .0) ∙ pointer-name (cluster roster) [] (r .before));
         low = leb-true 1 _ (e5 .0);
-        high = leb-true _ (boards roster) (e6 .0);
+        high = leb-true _ (replicas roster) (e6 .0);
       }
 
   -- ---- the certificates that are left, with the terms that are left
@@ -92,7 +92,7 @@ module _ (roster s : List ℕ) (S : ℕ) where
     pub record TermsLeft (left at stamp : ℕ) (before : List Record) (rs : List Run) : Type 0 where
       pub linked : Linked log before rs
       pub count : length rs ≡ left
-      pub leaders : every (leading (formOf roster) (boards roster)) (leadsFrom left at stamp rs) ≡ true
+      pub leaders : every (leading (formOf roster) (replicas roster)) (leadsFrom left at stamp rs) ≡ true
 
     -- the first of them
     pub record Turn (left at stamp : ℕ) (before : List Record) (rs : List Run) : Type 0 where

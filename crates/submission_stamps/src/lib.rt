@@ -8,7 +8,7 @@ ghost use Rattle.words.specs.BigEndian.{be, numberAt};
 ghost use Rattle.refusal.specs.Checks.{every};
 ghost use Rattle.sha256.specs.Sha256.{bytesOf};
 ghost use Rattle.lms.specs.Check.{good};
-ghost use Rattle.roster.specs.Roster.{cluster, boards, keyOf, rosterNumber};
+ghost use Rattle.roster.specs.Roster.{cluster, replicas, keyOf, rosterNumber};
 ghost use Rattle.log_chain.specs.Log as chain;
 ghost use Rattle.submission.specs.View.{runs, leadsOf, stampOf};
 ghost use Rattle.submission.specs.Reading.{ballotSize, recordsOf, certificates, certificatesEnd, stampsAt};
@@ -32,7 +32,7 @@ fn stamp_good(
     pointer: State,
 ) -> bool
     requires { ⌜ (rosterNumber (now roster) ≡ 0) × (at + ballotSize 4 ≤ length (now s)) × (0 < numberAt 2 (now s) at)
-        × (numberAt 2 (now s) at ≤ boards (now roster)) × (stamp + size ≤ length (now s)) ⌝ }
+        × (numberAt 2 (now s) at ≤ replicas (now roster)) × (stamp + size ≤ length (now s)) ⌝ }
     ensures { λ r. ⌜ r ≡ good (keyOf (now (roster .entry)) (numberAt 2 (now (s .entry)) at)) (1 ∷ cluster (now (roster .entry)) ++ be 4 (numberAt 4 (now (s .entry)) (at + 2)) ++ be 4 index ++ bytesOf pointer) (take size (drop stamp (now (s .entry)))) ⌝ }
 {
     let term = words::u32_at(s, at + TERM_AT);
@@ -66,7 +66,7 @@ pub fn stamps_good(
 ) -> bool
     requires { ⌜ (rosterNumber (now roster) ≡ 0) × (records ≤ paper.recordMost) × (certificatesEnd 4 size (now s) leaders from ≤ length (now s))
         × (stamps + leaders * size ≤ length (now s)) × (length (runs (recordsOf 4 records (now s))) ≡ leaders)
-        × (every (paper.leading (paper.formOf (now roster)) (boards (now roster))) (leadsOf (certificates 4 size (now s) leaders from) (runs (recordsOf 4 records (now s))) (stampsAt size (now s) leaders stamps)) ≡ true)
+        × (every (paper.leading (paper.formOf (now roster)) (replicas (now roster))) (leadsOf (certificates 4 size (now s) leaders from) (runs (recordsOf 4 records (now s))) (stampsAt size (now s) leaders stamps)) ≡ true)
         × (bytesOf pointer ≡ chain.pointer (chain.version1 []) (recordsOf 4 records (now s))) ⌝ }
     ensures { λ r. ⌜ r ≡ every (paper.genuine (paper.formOf (now (roster .entry))) (now (roster .entry))) (map (stampOf size) (leadsOf (certificates 4 size (now (s .entry)) leaders from) (runs (recordsOf 4 records (now (s .entry)))) (stampsAt size (now (s .entry)) leaders stamps))) ⌝ }
 {

@@ -12,11 +12,11 @@ ascii empty = []
 ascii (c then s) = code c ∷ ascii s
 
 unfoldable pub refusalLine : ℕ → ℕ → List ℕ
-refusalLine number side = (ascii "refusal " ++ decimal number) ++ (ascii " in " ++ decimal side) ++ ascii "\n"
+refusalLine number place = (ascii "refusal " ++ decimal number) ++ (ascii " in " ++ decimal place) ++ ascii "\n"
 
 unfoldable pub forkLine : ℕ → List ℕ
 forkLine index = (ascii "fork " ++ decimal index) ++ ascii "\n"
 
-unfoldable pub boardLine : ℕ → ℕ → ℕ → List ℕ
-boardLine board rule term =
-    (ascii "board " ++ decimal board) ++ (ascii " rule " ++ decimal rule) ++ (ascii " term " ++ decimal term) ++ ascii "\n"
+unfoldable pub replicaLine : ℕ → ℕ → ℕ → List ℕ
+replicaLine replica rule term =
+    (ascii "board " ++ decimal replica) ++ (ascii " rule " ++ decimal rule) ++ (ascii " term " ++ decimal term) ++ ascii "\n"

@@ -4,7 +4,7 @@ ghost use Prim.Native.Nat.{_+_, _≤_, _<_};
 ghost use lib.ListN.{length};
 ghost use Rattle.text_decimal.specs.Decimal.{decimal};
 ghost use Rattle.text_decimal.specs.Put.{Put};
-ghost use Rattle.text_line.specs.Texts.{refusalLine, forkLine, boardLine};
+ghost use Rattle.text_line.specs.Texts.{refusalLine, forkLine, replicaLine};
 
 // Puts a word and a number.
 fn put_field(out: &mut [u8], at: usize, word: &[u8], x: u32) -> usize
@@ -34,12 +34,12 @@ fn put_last(out: &mut [u8], at: usize, word: &[u8], x: u32) -> usize
 }
 
 // Puts the line of number and where.
-pub fn put_refusal(out: &mut [u8], at: usize, number: u32, side: u32) -> usize
+pub fn put_refusal(out: &mut [u8], at: usize, number: u32, place: u32) -> usize
     requires { ⌜ at + 33 ≤ length (now out) ⌝ }
-    ensures { λ r. ⌜ Put (now (out .entry)) (now (out .exit)) at r (refusalLine number side) 33 ⌝ }
+    ensures { λ r. ⌜ Put (now (out .entry)) (now (out .exit)) at r (refusalLine number place) 33 ⌝ }
 {
     let next = put_field(out, at, b"refusal ", number);
-    put_last(out, next, b" in ", side)
+    put_last(out, next, b" in ", place)
 }
 
 // Puts the line of the fork index.
@@ -50,12 +50,12 @@ pub fn put_fork(out: &mut [u8], at: usize, index: u32) -> usize
     put_last(out, at, b"fork ", index)
 }
 
-// Puts a board's line.
-pub fn put_board(out: &mut [u8], at: usize, board: u32, rule: u32, term: u32) -> usize
+// Puts a replica's line.
+pub fn put_replica(out: &mut [u8], at: usize, replica: u32, rule: u32, term: u32) -> usize
     requires { ⌜ at + 49 ≤ length (now out) ⌝ }
-    ensures { λ r. ⌜ Put (now (out .entry)) (now (out .exit)) at r (boardLine board rule term) 49 ⌝ }
+    ensures { λ r. ⌜ Put (now (out .entry)) (now (out .exit)) at r (replicaLine replica rule term) 49 ⌝ }
 {
-    let second = put_field(out, at, b"board ", board);
+    let second = put_field(out, at, b"board ", replica);
     let third = put_field(out, second, b" rule ", rule);
     put_last(out, third, b" term ", term)
 }

@@ -1,2 +1,2 @@
-mod Boards
+mod Replicas
 mod Examples

@@ -4,9 +4,9 @@ ghost use mathlib.Core.List.{_++_};
 ghost use Prim.Native.Nat.{_+_, _-_, _≤_, _<_};
 ghost use lib.ListN.{length, replicate};
 ghost use Rattle.text_decimal.specs.Put.{Put};
-ghost use Rattle.text_report.specs.Lines.{namedLine, boardLines, lines};
+ghost use Rattle.text_report.specs.Lines.{namedLine, replicaLines, lines};
 
-// Puts the line of board k, if a report names it.
+// Puts the line of replica k, if a report names it.
 fn put_named(out: &mut [u8], at: usize, report: &[u8], k: usize) -> usize
     requires { ⌜ (length (now report) ≡ 53) × (0 < k) × (k ≤ 9) × (at + 49 ≤ length (now out)) ⌝ }
     ensures { λ r. ⌜ Put (now (out .entry)) (now (out .exit)) at r (namedLine (now (report .entry)) k) 49 ⌝ }
@@ -17,13 +17,13 @@ fn put_named(out: &mut [u8], at: usize, report: &[u8], k: usize) -> usize
     let row = 8 + 5 * (k - 1);
     let rule = words::wide(report[row]);
     let term = words::u32_at(report, row + 1);
-    text_line::put_board(out, at, k as u32, rule, term)
+    text_line::put_replica(out, at, k as u32, rule, term)
 }
 
-// Puts the lines of the boards that a report names, 1 to 9.
-fn put_boards(out: &mut [u8], at: usize, report: &[u8]) -> usize
+// Puts the lines of the replicas that a report names, 1 to 9.
+fn put_replicas(out: &mut [u8], at: usize, report: &[u8]) -> usize
     requires { ⌜ (length (now report) ≡ 53) × (at + 441 ≤ length (now out)) ⌝ }
-    ensures { λ r. ⌜ Put (now (out .entry)) (now (out .exit)) at r (boardLines (now (report .entry)) 9 1) 441 ⌝ }
+    ensures { λ r. ⌜ Put (now (out .entry)) (now (out .exit)) at r (replicaLines (now (report .entry)) 9 1) 441 ⌝ }
 {
     let mut next = at;
     let mut k: usize = 1;
@@ -41,7 +41,7 @@ fn put_lines(out: &mut [u8], report: &[u8]) -> usize
 {
     let first = text_line::put_refusal(out, 0, words::wide(report[0]), words::wide(report[1]));
     let second = text_line::put_fork(out, first, words::u32_at(report, 2));
-    put_boards(out, second, report)
+    put_replicas(out, second, report)
 }
 
 // The lines of a report at the start of a buffer, and zeros after them; gives their length.

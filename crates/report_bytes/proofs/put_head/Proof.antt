@@ -13,7 +13,7 @@ returns c =
     let two = c .before .before .before .before .before .before .before .before .before .before .put-u82 in
     let three = c .before .before .before .before .before .before .put-u32 in
     let four = c .before .before .put-u16 in
-    head-parts (a .out .now) (one .last .0) (two .last .0) (three .last .0) (four .last .0) (a .number) (a .side) (a .fork) (a .mask)
+    head-parts (a .out .now) (one .last .0) (two .last .0) (three .last .0) (four .last .0) (a .number) (a .place) (a .fork) (a .mask)
     (one .ensures) (two .ensures) (three .ensures) (four .ensures)
 
 pub put-head-spec : {M : Type 1} → statement M

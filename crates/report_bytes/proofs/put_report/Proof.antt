@@ -15,7 +15,7 @@ returns c =
     let mask = c .before .before .before .before .before .before .before .named in
     let head = c .before .before .before .before .before .before .put-head in
     let body = c .before .before .put-rows in
-    report-parts (a .out .now) (head .last .0) (body .last .0) (a .number) (a .side) (a .fork) (mask .result) (a .rows)
+    report-parts (a .out .now) (head .last .0) (body .last .0) (a .number) (a .place) (a .fork) (mask .result) (a .rows)
     (start .pre) nine (mask .ensures) (head .ensures) (body .ensures)
 
 pub put-report-spec : {M : Type 1} → statement M

@@ -1,4 +1,4 @@
--- From the last board down, each turn doubles the mask and adds a bit: the mask is that of the rows from `left` on.
+-- From the last replica down, each turn doubles the mask and adds a bit: the mask is that of the rows from `left` on.
 -- Assumes nothing.
 use mathlib.Core.Path.{_≡_, ap, _∙_}
 use mathlib.Core.List.{map}

@@ -1,16 +1,16 @@
--- One board a turn: the boards that are left give what all of them give.
--- The loop of `roster_keys::all_single` with another test, since a function cannot be handed one. What both argue stands in `roster/proofs/EveryBoard.antt`.
+-- One replica a turn: the replicas that are left give what all of them give.
+-- The loop of `roster_keys::all_single` with another test, since a function cannot be handed one. What both argue stands in `roster/proofs/EveryReplica.antt`.
 -- Assumes nothing.
 use mathlib.Core.Path.{_≡_, refl}
 use Prim.Native.Nat.{_≤_}
 use native.Mathlib.Omega.{arith}
-use Rattle.roster.specs.Roster.{everyBoard, typed}
-use Rattle.roster.proofs.EveryBoard.{fails, next, done}
+use Rattle.roster.specs.Roster.{everyReplica, typed}
+use Rattle.roster.proofs.EveryReplica.{fails, next, done}
 use Rattle.roster_checks.proofs.all_typed.Statement.{statement}
 use Rattle.roster_checks.proofs.all_typed.Tie as tie
 
 abbrev Inv-loop : tie.InvT-loop
-Inv-loop roster n left₀ left = (left ≤ n) × (everyBoard left (typed roster) ≡ everyBoard n (typed roster))
+Inv-loop roster n left₀ left = (left ≤ n) × (everyReplica left (typed roster) ≡ everyReplica n (typed roster))
 
 abbrev μ-loop : tie.MeasureT-loop
 μ-loop roster n left₀ left = left

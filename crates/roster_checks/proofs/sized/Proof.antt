@@ -7,7 +7,7 @@ use lib.Dec.{eqb}
 use lib.ListN.{length}
 use Rattle.lm_format.specs.Format.{keySize}
 use Rattle.roster.specs.Roster.{headSize}
-use Rattle.roster_checks.proofs.Answers.{no-head, few-boards, many-boards, by-length}
+use Rattle.roster_checks.proofs.Answers.{no-head, few-replicas, many-replicas, by-length}
 use borrow.Author.Needs.{needs}
 use Rattle.roster_checks.proofs.sized.Statement.{statement}
 use Rattle.roster_checks.proofs.sized.Tie as tie
@@ -17,18 +17,18 @@ returns c = no-head (c .before .before .args .roster .now) (c .if1 .taken)
 
 returns-2 : tie.Need-returns-2
 returns-2 c =
-    few-boards (c .before .before .before .before .args .roster .now) (c .before .before .if1 .left) (omega arith)
+    few-replicas (c .before .before .before .before .args .roster .now) (c .before .before .if1 .left) (omega arith)
 
 returns-3 : tie.Need-returns-3
 returns-3 c =
-    many-boards (c .before .before .before .before .before .args .roster .now) (c .before .before .before .if1 .left)
+    many-replicas (c .before .before .before .before .before .args .roster .now) (c .before .before .before .if1 .left)
     (omega arith)
     (omega arith)
 
 returns-4 : tie.Need-returns-4
 returns-4 c =
     let roster = c .before .before .before .before .before .args .roster .now in
-    let n = c .before .before .boards .ensures .0 in
+    let n = c .before .before .replicas .ensures .0 in
     ap (λ (n : ℕ). eqb (length roster) (headSize + keySize * n)) n
     ∙ by-length roster (c .before .before .before .if1 .left) (omega arith) (omega arith)
 

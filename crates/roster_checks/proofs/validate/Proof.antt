@@ -12,8 +12,8 @@ use Rattle.roster_checks.proofs.validate.Tie as tie
 returns : tie.Need-returns
 returns c = unsized (c .before .before .before .args .roster .now) (sym (c .before .sized .ensures) ∙ not-true _ (c .if1 .taken))
 
-boards-requires : tie.Need-boards-requires
-boards-requires c κs =
+replicas-requires : tie.Need-replicas-requires
+replicas-requires c κs =
     let s = sized-true (c .before .before .before .args .roster .now) (sym (c .before .sized .ensures) ∙ not-false _ (c .if1 .left)) in
     omega arith
 
@@ -26,7 +26,7 @@ returns-2 : tie.Need-returns-2
 returns-2 c =
     let roster = c .before .before .before .before .before .before .args .roster .now in
     let size = sym (c .before .before .before .before .sized .ensures) ∙ not-false _ (c .before .before .before .if1 .left) in
-    let n = c .before .before .boards .ensures .0 in
+    let n = c .before .before .replicas .ensures .0 in
     untyped roster size (rw (← n) (sym (c .before .all-typed .ensures) ∙ not-true _ (c .if2 .taken)))
 
 all-single-requires : tie.Need-all-single-requires
@@ -38,7 +38,7 @@ returns-3 : tie.Need-returns-3
 returns-3 c =
     let roster = c .before .before .before .before .before .before .before .before .args .roster .now in
     let size = sym (c .before .before .before .before .before .before .sized .ensures) ∙ not-false _ (c .before .before .before .before .before .if1 .left) in
-    let n = c .before .before .before .before .boards .ensures .0 in
+    let n = c .before .before .before .before .replicas .ensures .0 in
     duplicate roster size
     (rw (← n) (sym (c .before .before .before .all-typed .ensures) ∙ not-false _ (c .before .before .if2 .left)))
     (rw (← n) (sym (c .before .all-single .ensures) ∙ not-true _ (c .if3 .taken)))
@@ -47,7 +47,7 @@ returns-4 : tie.Need-returns-4
 returns-4 c =
     let roster = c .before .before .before .before .before .before .before .before .args .roster .now in
     let size = sym (c .before .before .before .before .before .before .sized .ensures) ∙ not-false _ (c .before .before .before .before .before .if1 .left) in
-    let n = c .before .before .before .before .boards .ensures .0 in
+    let n = c .before .before .before .before .replicas .ensures .0 in
     accept roster size
     (rw (← n) (sym (c .before .before .before .all-typed .ensures) ∙ not-false _ (c .before .before .if2 .left)))
     (rw (← n) (sym (c .before .all-single .ensures) ∙ not-false _ (c .if3 .left)))
@@ -58,7 +58,7 @@ validate-spec =
     (tie.spec
     (λ c κs. search needs)
     returns
-    boards-requires
+    replicas-requires
     all-typed-requires
     returns-2
     all-single-requires

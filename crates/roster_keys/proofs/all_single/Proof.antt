@@ -1,16 +1,16 @@
--- One board a turn: the boards that are left give what all of them give.
--- The loop of `roster_checks::all_typed` with another test, since a function cannot be handed one. What both argue stands in `roster/proofs/EveryBoard.antt`.
+-- One replica a turn: the replicas that are left give what all of them give.
+-- The loop of `roster_checks::all_typed` with another test, since a function cannot be handed one. What both argue stands in `roster/proofs/EveryReplica.antt`.
 -- Assumes nothing.
 use mathlib.Core.Path.{_≡_, refl}
 use Prim.Native.Nat.{_≤_}
 use native.Mathlib.Omega.{arith}
-use Rattle.roster.specs.Roster.{everyBoard, single}
-use Rattle.roster.proofs.EveryBoard.{fails, next, done}
+use Rattle.roster.specs.Roster.{everyReplica, single}
+use Rattle.roster.proofs.EveryReplica.{fails, next, done}
 use Rattle.roster_keys.proofs.all_single.Statement.{statement}
 use Rattle.roster_keys.proofs.all_single.Tie as tie
 
 abbrev Inv-loop : tie.InvT-loop
-Inv-loop roster n last₀ last = (last ≤ n) × (everyBoard last (single roster) ≡ everyBoard n (single roster))
+Inv-loop roster n last₀ last = (last ≤ n) × (everyReplica last (single roster) ≡ everyReplica n (single roster))
 
 abbrev μ-loop : tie.MeasureT-loop
 μ-loop roster n last₀ last = last

@@ -1,4 +1,4 @@
--- One board a turn: the boards that are left give what all before k give.
+-- One replica a turn: the replicas that are left give what all before k give.
 -- Assumes nothing.
 use mathlib.Core.Path.{_≡_, refl}
 use mathlib.Core.Bool.{Bool, not}
@@ -6,18 +6,18 @@ use mathlib.Core.List.{List}
 use Prim.Native.Nat.{ℕ, _≤_, _-_}
 use native.Mathlib.Omega.{arith}
 use Rattle.words.specs.BigEndian.{same}
-use Rattle.roster.specs.Roster.{keyOf, everyBoard, single}
-use Rattle.roster.proofs.EveryBoard.{fails, next, done}
+use Rattle.roster.specs.Roster.{keyOf, everyReplica, single}
+use Rattle.roster.proofs.EveryReplica.{fails, next, done}
 use Rattle.roster_keys.proofs.single.Statement.{statement}
 use Rattle.roster_keys.proofs.single.Tie as tie
 
--- board j's key is not k's
+-- replica j's key is not k's
 abbrev other : List ℕ → ℕ → ℕ → Bool
 other roster k j = not (same (keyOf roster j) (keyOf roster k))
 
 abbrev Inv-loop : tie.InvT-loop
 Inv-loop roster k j₀ j =
-    (j ≤ k - 1) × (everyBoard j (other roster k) ≡ single roster k)
+    (j ≤ k - 1) × (everyReplica j (other roster k) ≡ single roster k)
 
 abbrev μ-loop : tie.MeasureT-loop
 μ-loop roster k j₀ j = j

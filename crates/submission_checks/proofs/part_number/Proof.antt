@@ -17,18 +17,18 @@ all-quorate-requires : tie.Need-all-quorate-requires
 all-quorate-requires c κs =
     let p = c .before .before .before .before .before .pre in
     let z = sizes _ (p .0) in
-    rw (c .boards .ensures .0) (omega arith, z .high, p .1, sym (c .before .before .laid-out .ensures) ∙ not-false _ (c .before .if1 .left))
+    rw (c .replicas .ensures .0) (omega arith, z .high, p .1, sym (c .before .before .laid-out .ensures) ∙ not-false _ (c .before .if1 .left))
 
 returns-2 : tie.Need-returns-2
 unfolding partChecks
 returns-2 c =
-    let asked = rw (c .before .before .boards .ensures .0) at (c .before .all-quorate .ensures) in
+    let asked = rw (c .before .before .replicas .ensures .0) at (c .before .all-quorate .ensures) in
     sym (passed 9 _ _ (sym (c .before .before .before .before .laid-out .ensures) ∙ not-false _ (c .before .before .before .if1 .left)) ∙ refused 10 _ _ (sym asked ∙ not-true _ (c .if2 .taken)))
 
 log-number-requires : tie.Need-log-number-requires
 log-number-requires c κs =
     let p = c .before .before .before .before .before .before .before .pre in
-    let asked = rw (c .before .before .boards .ensures .0) at (c .before .all-quorate .ensures) in
+    let asked = rw (c .before .before .replicas .ensures .0) at (c .before .all-quorate .ensures) in
     record {
       fine = p .0;
       bounds = p .1;
@@ -39,7 +39,7 @@ log-number-requires c κs =
 returns-3 : tie.Need-returns-3
 unfolding partChecks
 returns-3 c =
-    let asked = rw (c .before .before .before .boards .ensures .0) at (c .before .before .all-quorate .ensures) in
+    let asked = rw (c .before .before .before .replicas .ensures .0) at (c .before .before .all-quorate .ensures) in
     c .log-number .ensures
     ∙ sym (passed 9 _ _ (sym (c .before .before .before .before .before .laid-out .ensures) ∙ not-false _ (c .before .before .before .before .if1 .left)) ∙ passed 10 _ _ (sym asked ∙ not-false _ (c .before .if2 .left)))
 

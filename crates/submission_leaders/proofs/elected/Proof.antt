@@ -6,7 +6,7 @@ use native.Mathlib.Omega.{arith}
 use borrow.Author.Needs.{needs}
 use Rattle.roster.specs.Masks.{signer}
 use Rattle.submission.specs.Reading.{ballotSize, signersAt}
-use Rattle.submission_leaders.proofs.Leads.{candidate-at, signers-at, no-board, above-boards, by-signer}
+use Rattle.submission_leaders.proofs.Leads.{candidate-at, signers-at, no-replica, above-replicas, by-signer}
 use Rattle.submission_leaders.proofs.elected.Statement.{statement}
 use Rattle.submission_leaders.proofs.elected.Tie as tie
 
@@ -15,14 +15,14 @@ returns c =
     let a = c .before .before .before .args in
     let s = a .s .now in
     let who = c .before .u16-at .ensures .0 ∙ candidate-at s (a .at) in
-    no-board (a .n) (signersAt s (a .at + ballotSize 4)) _ (rw (← who) (c .if1 .taken))
+    no-replica (a .n) (signersAt s (a .at + ballotSize 4)) _ (rw (← who) (c .if1 .taken))
 
 returns-2 : tie.Need-returns-2
 returns-2 c =
     let a = c .before .before .before .before .args in
     let s = a .s .now in
     let who = c .before .before .u16-at .ensures .0 ∙ candidate-at s (a .at) in
-    above-boards (a .n) (signersAt s (a .at + ballotSize 4)) _ (rw (← who) (c .before .if1 .left)) (rw (← who) (c .if2 .taken))
+    above-replicas (a .n) (signersAt s (a .at + ballotSize 4)) _ (rw (← who) (c .before .if1 .left)) (rw (← who) (c .if2 .taken))
 
 u16-at-requires-2 : tie.Need-u16-at-requires-2
 unfolding ballotSize

@@ -1,4 +1,4 @@
--- Fewer ones than a quorum, or a bit above board n.
+-- Fewer ones than a quorum, or a bit above replica n.
 -- Assumes nothing.
 use native.Mathlib.Omega.{arith}
 use borrow.Author.Tests.{le-leb, lt-leb}

@@ -1,23 +1,23 @@
--- One bit of the mask a turn: the signatures of the boards that are left give what all of them give. A board's key lies inside, since no bit
--- stands above board n.
+-- One bit of the mask a turn: the signatures of the replicas that are left give what all of them give. A replica's key lies inside, since no bit
+-- stands above replica n.
 -- Assumes nothing.
 use mathlib.Core.Path.{_≡_}
 use Prim.Native.Nat.{_+_, _-_, _*_, _^_, _≤_, _<_}
 use native.Mathlib.Omega.{arith}
 use lib.Count.{ones}
 use lib.ListN.{length, drop}
-use Rattle.roster.specs.Roster.{boards}
-use Rattle.roster.specs.Masks.{boardsOf}
+use Rattle.roster.specs.Roster.{replicas}
+use Rattle.roster.specs.Masks.{replicasOf}
 use Rattle.roster.proofs.Accepted.{key-inside}
 use Rattle.submission_slots.specs.Signatures.{goodAll}
-use Rattle.submission_slots.proofs.Signed.{goodFrom, goodFrom-all, absent, wrong, right, none-left, board-inside, half-inside, room-one, room-none}
+use Rattle.submission_slots.proofs.Signed.{goodFrom, goodFrom-all, absent, wrong, right, none-left, replica-inside, half-inside, room-one, room-none}
 use Rattle.submission_slots.proofs.all_good.Statement.{statement}
 use Rattle.submission_slots.proofs.all_good.Tie as tie
 
 abbrev Inv-loop : tie.InvT-loop
 Inv-loop roster message mask s at size k₀ rest₀ from₀ k rest from =
-    (k ≤ 16) × (rest < 2 ^ (boards roster - k)) × (from + size * ones rest ≤ length s)
-    × (goodFrom roster message size s k rest from ≡ goodAll roster message size (boardsOf mask) (drop at s))
+    (k ≤ 16) × (rest < 2 ^ (replicas roster - k)) × (from + size * ones rest ≤ length s)
+    × (goodFrom roster message size s k rest from ≡ goodAll roster message size (replicasOf mask) (drop at s))
 
 abbrev μ-loop : tie.MeasureT-loop
 μ-loop roster message mask s at size k₀ rest₀ from₀ k rest from = 16 - k
@@ -26,7 +26,7 @@ loop-holds : tie.Need-loop-holds Inv-loop μ-loop
 loop-holds c =
     let start = c .before .before .before in
     let a = start .args in
-    let all : boards (a .roster .now) - 0 ≡ boards (a .roster .now) = omega arith in
+    let all : replicas (a .roster .now) - 0 ≡ replicas (a .roster .now) = omega arith in
     (omega arith, rw all (start .pre .2), start .pre .3, goodFrom-all (a .roster .now) (a .message .now) (a .size) (a .s .now) (a .mask) (a .at))
 
 add-end : tie.Need-add-end Inv-loop μ-loop
@@ -48,7 +48,7 @@ genuine-requires c κs =
     let start = c .before .before .before .before .before .before .before in
     let a = start .args in
     let l = c .before .before .before .loop in
-    let few = board-inside (boards (a .roster .now)) (l .k) (l .rest) (l .inv .1) (c .before .if1 .taken) in
+    let few = replica-inside (replicas (a .roster .now)) (l .k) (l .rest) (l .inv .1) (c .before .if1 .taken) in
     (omega arith, key-inside (a .roster .now) (start .pre .0) (l .k + 1) few, start .pre .1)
 
 returns : tie.Need-returns Inv-loop μ-loop

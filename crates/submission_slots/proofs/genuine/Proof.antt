@@ -1,4 +1,4 @@
--- The check's answer under the board's key: on a message that is not too long it is good or bad.
+-- The check's answer under the replica's key: on a message that is not too long it is good or bad.
 -- Assumes nothing.
 use mathlib.Core.Path.{sym, ap, _∙_}
 use mathlib.Core.List.{List}

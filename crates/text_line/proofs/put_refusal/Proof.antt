@@ -15,7 +15,7 @@ returns c =
     let a = c .before .before .before .before .before .before .before .before .before .before .before .args in
     let number = c .before .before .before .before .before .before .before .put-field .ensures in
     put-same (put-then number (c .before .before .put-last .ensures))
-    (sym (append-assoc (ascii "refusal " ++ decimal (a .number)) (ascii " in " ++ decimal (a .side)) (ascii "\n")))
+    (sym (append-assoc (ascii "refusal " ++ decimal (a .number)) (ascii " in " ++ decimal (a .place)) (ascii "\n")))
 
 pub put-refusal-spec : {M : Type 1} → statement M
 put-refusal-spec = tie.close (tie.spec (λ c. search needs) (λ c κs. search needs) (λ c. search needs) (λ c κs. search needs) (λ c. search needs) returns)

@@ -1,9 +1,9 @@
--- Nothing for a board that is not named, otherwise the line of the row's rule and term.
+-- Nothing for a replica that is not named, otherwise the line of the row's rule and term.
 -- Assumes nothing.
 use borrow.Author.Tests.{not-true, not-false}
 use borrow.Author.Needs.{needs}
 use Rattle.roster.specs.Masks.{signer}
-use Rattle.text_report.proofs.Boards.{told, unnamed, named}
+use Rattle.text_report.proofs.Replicas.{told, unnamed, named}
 use Rattle.text_decimal.proofs.Puts.{put-none, put-same}
 use Rattle.text_report.proofs.put_named.Statement.{statement}
 use Rattle.text_report.proofs.put_named.Tie as tie
@@ -25,7 +25,7 @@ returns-2 c =
     let mask = c .before .before .before .before .before .before .before .before .before .u16-at .ensures .0 in
     let test = c .before .before .before .before .before .before .before .before .signer .ensures in
     let told-so = told report (a .k) mask test (not-false _ (c .before .before .before .before .before .before .before .if1 .left)) in
-    put-same (c .before .before .put-board .ensures)
+    put-same (c .before .before .put-replica .ensures)
     (named report (a .k) (rule .result) (term .result) told-so (rule .ensures .0) (term .ensures .0))
 
 pub put-named-spec : {M : Type 1} → statement M

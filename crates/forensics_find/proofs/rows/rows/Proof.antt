@@ -1,4 +1,4 @@
--- One board a turn: the rows of the boards before it are done.
+-- One replica a turn: the rows of the replicas before it are done.
 -- Assumes nothing.
 use mathlib.Core.Path.{refl}
 use Prim.Native.Nat.{_-_}
@@ -6,7 +6,7 @@ use native.Mathlib.Omega.{arith}
 use Rattle.forensics.specs.Findings.{lowest}
 use Rattle.forensics_charges.specs.Charges.{ruledBy, rowsBy}
 use Rattle.forensics_tenures.specs.Tenures.{tenuresOf}
-use Rattle.forensics_find.proofs.Boards.{Filled, fill, filled}
+use Rattle.forensics_find.proofs.Replicas.{Filled, fill, filled}
 use Rattle.forensics_find.proofs.rows.rows.Statement.{statement}
 use Rattle.forensics_find.proofs.rows.rows.Tie as tie
 

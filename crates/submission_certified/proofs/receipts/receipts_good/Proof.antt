@@ -9,7 +9,7 @@ use Rattle.words.specs.BigEndian.{be}
 use Rattle.sha256.specs.Service.{limit}
 use Rattle.sha256.specs.Sha256.{bytesOf}
 use Rattle.roster.specs.Roster.{cluster}
-use Rattle.roster.specs.Masks.{boardsOf}
+use Rattle.roster.specs.Masks.{replicasOf}
 use Rattle.log_chain.specs.Log.{lastTerm}
 use Rattle.submission.specs.Reading.{recordSize, recordsOf, signersAt, commitEnd}
 use Rattle.submission_slots.specs.Signatures.{goodAll}
@@ -66,7 +66,7 @@ returns c =
     let index = c .before .before .before .before .before .before .u32-at .ensures .0 in
     let term = c .before .before .before .before .before .last-term .ensures ∙ ap (λ (i : ℕ). lastTerm (recordsOf 4 i s)) index in
     c .all-good .ensures
-    ∙ ap₂ (λ (m : List ℕ) (mask : ℕ). goodAll roster m (a .size) (boardsOf mask) (drop (a .at + 6) s))
+    ∙ ap₂ (λ (m : List ℕ) (mask : ℕ). goodAll roster m (a .size) (replicasOf mask) (drop (a .at + 6) s))
     (c .before .before .before .place-statement .ensures
     ∙ ap₂ (λ (t i : ℕ). 2 ∷ cluster roster ++ be 4 t ++ be 4 i ++ bytesOf (a .pointer)) term index) (c .before .u16-at .ensures .0)
     ∙ receipt-slots roster s (a .size) (a .at) (a .records) (bytesOf (a .pointer)) (start .pre .4) (start .pre .5)

@@ -7,7 +7,7 @@ use Prim.Native.Nat.{_≤_}
 use native.Mathlib.Omega.{arith}
 use lib.ListN.{length}
 use Rattle.refusal.specs.Checks.{every}
-use Rattle.roster.specs.Roster.{boards}
+use Rattle.roster.specs.Roster.{replicas}
 use Rattle.submission.specs.Reading.{certificates, certificatesEnd}
 use Rattle.submission.specs.Validate.{genuine, formOf}
 use Rattle.submission_certified.specs.Votes.{ballots, quorateAll}
@@ -18,7 +18,7 @@ use Rattle.submission_certified.proofs.votes.votes_good.Tie as tie
 
 abbrev Inv-loop : tie.InvT-loop
 Inv-loop roster s size leaders from left₀ at₀ left at =
-    (certificatesEnd 4 size s left at ≤ length s) × (quorateAll (boards roster) (certificates 4 size s left at) ≡ true)
+    (certificatesEnd 4 size s left at ≤ length s) × (quorateAll (replicas roster) (certificates 4 size s left at) ≡ true)
     × (every (genuine (formOf roster) roster) (flatMap (ballots size) (certificates 4 size s left at))
     ≡ every (genuine (formOf roster) roster) (flatMap (ballots size) (certificates 4 size s leaders from)))
 
@@ -34,7 +34,7 @@ votes-good-at-requires c κs =
     let a = start .args in
     let l = c .before .loop in (
       start .pre .0,
-      first-signers (a .size) (a .s .now) (l .left) (l .at) (omega arith) (boards (a .roster .now)) (l .inv .1),
+      first-signers (a .size) (a .s .now) (l .left) (l .at) (omega arith) (replicas (a .roster .now)) (l .inv .1),
       first-inside 4 (a .size) (a .s .now) (l .left) (l .at) (omega arith) (l .inv .0),
     )
 
@@ -56,7 +56,7 @@ loop-again c =
     let l = c .before .before .before .before .loop in
     rw (c .certificate-end .ensures) (
       rest-inside 4 (a .size) (a .s .now) (l .left) (l .at) (omega arith) (l .inv .0),
-      rest-quorums (a .size) (a .s .now) (l .left) (l .at) (omega arith) (boards (a .roster .now)) (l .inv .1),
+      rest-quorums (a .size) (a .s .now) (l .left) (l .at) (omega arith) (replicas (a .roster .now)) (l .inv .1),
       votes-next (a .size) (a .s .now) (l .left) (l .at) (omega arith) _ (l .inv .2) (c .before .before .votes-good-at .ensures) (c .before .if1 .left),
     )
 

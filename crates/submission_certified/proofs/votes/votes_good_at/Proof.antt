@@ -9,7 +9,7 @@ use lib.Seq.{length-take-le}
 use Rattle.words.proofs.Laws.{bytes-each}
 use Rattle.sha256.specs.Service.{limit}
 use Rattle.roster.specs.Roster.{cluster}
-use Rattle.roster.specs.Masks.{boardsOf}
+use Rattle.roster.specs.Masks.{replicasOf}
 use Rattle.submission.specs.Reading.{ballotSize, signersAt, certificateEnd}
 use Rattle.submission_slots.specs.Signatures.{goodAll}
 use Rattle.submission_certified.proofs.Said.{name-length, vote-slots}
@@ -67,7 +67,7 @@ returns c =
     let each : (i : ℕ) → getD s i 0 < 256 = λ i. c .before .before .before .before .before .before .shared-slice-known2 .given i .fits in
     let count : a .at + 46 - a .at ≡ 46 = omega arith in
     c .all-good .ensures
-    ∙ ap₂ (λ (m : List ℕ) (mask : ℕ). goodAll roster m (a .size) (boardsOf mask) (drop (a .at + 46 + 2) s))
+    ∙ ap₂ (λ (m : List ℕ) (mask : ℕ). goodAll roster m (a .size) (replicasOf mask) (drop (a .at + 46 + 2) s))
     (c .before .before .before .vote-statement .ensures ∙ ap (λ (n : ℕ). 3 ∷ cluster roster ++ take n (drop (a .at) s)) count) (c .before .u16-at .ensures .0)
     ∙ vote-slots roster s (a .size) (a .at) (bytes-each s each) (omega arith)
 

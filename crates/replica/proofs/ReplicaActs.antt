@@ -1,5 +1,5 @@
 -- Acts on many states, and the state after each, or none where the board rules forbid it: by the separately
--- written auditor's own rules. Made by `board_acts` of tests/auditor; the gate makes it anew and compares.
+-- written auditor's own rules. Made by `replica_acts` of tests/auditor; the gate makes it anew and compares.
 -- Assumes nothing.
 use mathlib.Core.List.{List, [], _∷_, _++_}
 use mathlib.Core.Option.{some, none}

@@ -1,4 +1,4 @@
--- The rows of the boards, one board after the other: a row for each that is done, and then the next board's.
+-- The rows of the replicas, one replica after the other: a row for each that is done, and then the next replica's.
 -- Assumes nothing.
 use mathlib.Core.Path.{_≡_, refl, sym, ap, _∙_}
 use mathlib.Core.List.{List, [], _∷_, _++_, map}
