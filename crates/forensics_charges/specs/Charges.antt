@@ -10,8 +10,8 @@ use Rattle.log_chain.specs.Log.{Record, lastTerm}
 use Rattle.replica.specs.Charges.{Charge, charge}
 use Rattle.submission.specs.View.{Commit, View}
 use Rattle.forensics.specs.Findings as forensics
-use Rattle.forensics_rules.specs.declared.Tenure.{Tenure}
-use Rattle.forensics_rules.specs.Rules.{twoCandidates, twoLogs, forgotten}
+use Rattle.forensics_charges.specs.declared.Tenure.{Tenure}
+use Rattle.forensics_charges.specs.Rules.{twoCandidates, twoLogs, forgotten}
 use Rattle.forensics_charges.specs.declared.Receipts.{Receipts}
 use Rattle.forensics_charges.specs.declared.Receipts.the-variants.{Given, Absent}
 use Rattle.forensics_charges.specs.declared.Row.{Row}

@@ -4,10 +4,28 @@ ghost use mathlib.Core.List.{[]};
 ghost use Prim.Native.Nat.{_<_};
 ghost use Rattle.replica.specs.Charges.{charge};
 ghost use Rattle.forensics.specs.Findings.{lowest};
-ghost use Rattle.forensics_rules.specs.Rules.{forgotten};
+ghost use Rattle.forensics_charges.specs.Rules.{forgotten};
 ghost use Rattle.forensics_charges.specs.Charges as inner;
-use forensics_rules::Receipt;
-use forensics_rules::Tenure;
+
+pub mod rules;
+
+// A term of a submission as its rules compare it: the numbers of its leader certificate, and the index of its last record in this log, where the
+// stamp is.
+pub struct Tenure {
+    pub candidate: u16,
+    pub term: u32,
+    pub last_term: u32,
+    pub last_index: u32,
+    pub signers: u16,
+    pub end: u32,
+}
+
+// The receipts of a commit certificate: the term and the index of the record, and the replicas that gave them.
+pub struct Receipt {
+    pub term: u32,
+    pub index: u32,
+    pub signers: u16,
+}
 
 // The receipts of a submission, where it has a commit certificate.
 pub enum Receipts {
@@ -44,7 +62,7 @@ pub fn lower(x: Row, y: Row) -> Row
     if y.rule == 0 {
         return x;
     }
-    if forensics_rules::staler(y.rule as u32, y.term, x.rule as u32, x.term) {
+    if rules::staler(y.rule as u32, y.term, x.rule as u32, x.term) {
         return y;
     }
     x
@@ -66,8 +84,8 @@ pub fn between(k: usize, difference: usize, x: Tenure, y: Tenure) -> Row
     requires { ⌜ 0 < k ⌝ }
     ensures { λ r. ⌜ inner.chargeOf r ≡ lowest (inner.between k difference x y) ⌝ }
 {
-    let votes = charged(forensics_rules::two_candidates(k, x, y), 1, x.term);
-    let stamps = charged(forensics_rules::two_logs(k, difference, x, y), 2, x.term);
+    let votes = charged(rules::two_candidates(k, x, y), 1, x.term);
+    let stamps = charged(rules::two_logs(k, difference, x, y), 2, x.term);
     lower(votes, stamps)
 }
 
@@ -76,5 +94,5 @@ pub fn after_receipt(k: usize, rule: u8, given: Receipt, y: Tenure) -> Row
     requires { ⌜ (0 < k) × (0 < rule) ⌝ }
     ensures { λ r. ⌜ inner.chargeOf r ≡ lowest (charge (forgotten k given y) rule (y .term)) ⌝ }
 {
-    charged(forensics_rules::forgotten(k, given, y), rule, y.term)
+    charged(rules::forgotten(k, given, y), rule, y.term)
 }

@@ -15,10 +15,10 @@ use Rattle.submission.specs.Reading.{recordsOf, certificateAt, certificateEnd, 
 use Rattle.submission.specs.Validate.{formOf, viewOf, oneEach}
 use Rattle.submission.proofs.Accepted.{Sound, length-certificates}
 use Rattle.submission.proofs.Fits.{length-records}
-use Rattle.submission_leaders.proofs.Leads.{last-index-at}
-use Rattle.submission_stamps.proofs.Linked.{Linked, linked-runs, leadAt, leadsFrom, leads-first, TermsLeft, turn}
+use Rattle.submission.proofs.Places.{last-index-at}
+use Rattle.submission.proofs.Linked.{Linked, linked-runs, leadAt, leadsFrom, leads-first, TermsLeft, turn}
 use Rattle.forensics_find.proofs.Views.{tenure, tenures}
-use Rattle.forensics_tenures.specs.Tenures.{endAt, tenureAt, tenuresAt, tenuresOf}
+use Rattle.forensics_find.specs.Tenures.{endAt, tenureAt, tenuresAt, tenuresOf}
 
 module _ (roster s : List ℕ) (S : ℕ) where
   abbrev log : List Record

@@ -12,11 +12,11 @@ use Rattle.submission.specs.Trailer.{trailerAt, recordCount, leaderCount}
 use Rattle.submission.specs.Reading.{recordSize, certificateEnd, certificatesEnd, leadersFrom, laidOut}
 use Rattle.forensics.specs.Findings.{lowest}
 use Rattle.submission.proofs.Certificates.{certificates-from, end-first}
-use Rattle.submission_reader.proofs.Readings.{certificate-fields}
-use Rattle.submission_layout.proofs.Inside.{leaders-inside}
-use Rattle.forensics_rules.specs.declared.Tenure.{Tenure}
+use Rattle.submission_parts.proofs.Readings.{certificate-fields}
+use Rattle.submission_parts.proofs.Inside.{leaders-inside}
+use Rattle.forensics_charges.specs.declared.Tenure.{Tenure}
 use Rattle.forensics_charges.specs.Charges.{least}
-use Rattle.forensics_tenures.specs.Tenures.{tenureAt, tenuresAt, tenuresOf}
+use Rattle.forensics_find.specs.Tenures.{tenureAt, tenuresAt, tenuresOf}
 use Rattle.forensics_charges.proofs.Lowest.{least-none, least-assoc, lowest-append}
 
 module _ (S : ℕ) (s : List ℕ) where
@@ -45,7 +45,10 @@ module _ (S : ℕ) (s : List ℕ) where
         rest-inside : certificatesEnd 4 S s (left - 1) (certificateEnd 4 S s at) ≤ trailerAt s
         rest-inside = rw (end-first 4 S s left at more) at (x .inside)
 
-        -- the first lies inside, and the fields of the one after it
+        -- the first lies inside, and so do its fields and those of the one after it
+        pub end-inside : certificateEnd 4 S s at ≤ length s
+        end-inside = omega (arith, certificates-from 4 S s (left - 1) (certificateEnd 4 S s at), rest-inside)
+
         pub first-inside : at + 48 ≤ length s
         first-inside = omega (arith, certificate-fields S s at, certificates-from 4 S s (left - 1) (certificateEnd 4 S s at), rest-inside)
 

@@ -1,3 +1,4 @@
+mod Forks
 pub mod Views
 pub mod Says
 pub mod Pairs
@@ -6,3 +7,5 @@ pub mod Ended
 pub mod Left
 pub mod Replicas
 pub mod Shown
+mod Committed
+mod Numbers

@@ -24,8 +24,8 @@ use Rattle.submission.specs.Validate.{leading, within}
 use Rattle.submission.proofs.Accepted.{Sound}
 use Rattle.submission.proofs.Runs.{run-begins}
 use Rattle.forensics.specs.Findings.{says, charges, lowest, differAt}
-use Rattle.forensics_rules.specs.declared.Receipt.{Receipt}
-use Rattle.forensics_rules.specs.Rules.{twoCandidates, twoLogs, forgotten}
+use Rattle.forensics_charges.specs.declared.Receipt.{Receipt}
+use Rattle.forensics_charges.specs.Rules.{twoCandidates, twoLogs, forgotten}
 use Rattle.forensics_charges.specs.Charges.{receiptsBy, receipts, between, amongTerms, afterReceipts, least, ruledBy}
 use Rattle.forensics_find.proofs.Views.{tenure, tenures, ruled}
 use Rattle.forensics_charges.proofs.Lowest.{lowest-append, lowest-split, lowest-both}

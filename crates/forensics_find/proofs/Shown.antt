@@ -16,16 +16,16 @@ use Rattle.submission.specs.Reading.{recordsOf, view, laidOut}
 use Rattle.submission.specs.Validate.{within, formOf, viewOf, validate}
 use Rattle.submission.proofs.Accepted.{Sound, validated}
 use Rattle.forensics.specs.Findings.{differAt, fork, charges, lowest, findings}
-use Rattle.submission_layout.specs.Parts.{Bounds}
-use Rattle.submission_layout.proofs.Inside.{bounds}
+use Rattle.submission_parts.specs.Parts.{Bounds}
+use Rattle.submission_parts.proofs.Inside.{bounds}
 use Rattle.forensics_charges.specs.declared.Receipts.{Receipts}
 use Rattle.forensics_charges.specs.declared.Row.{Row}
 use Rattle.forensics_charges.specs.Charges.{receipts, ruledBy, rowsBy, forkOf, chargeOf, findingsOf}
 use Rattle.forensics_find.proofs.Views.{ruled}
-use Rattle.forensics_tenures.specs.Tenures.{tenuresOf}
+use Rattle.forensics_find.specs.Tenures.{tenuresOf}
 use Rattle.forensics_find.specs.Read.{read}
 use Rattle.forensics_find.proofs.Replicas.{rows-same}
-use Rattle.log_difference.proofs.Differ.{fork-ruled}
+use Rattle.forensics_find.proofs.Forks.{fork-ruled}
 use Rattle.forensics_find.proofs.Ended.{tenures-read}
 use Rattle.forensics_find.proofs.Rules.{rows-ruled}
 

@@ -5,7 +5,7 @@ use Prim.Native.Nat.{ℕ}
 use lib.ListN.{length}
 use Rattle.replica.specs.Charges.{Charge}
 use Rattle.submission.specs.View.{View, Lead, leads}
-use Rattle.forensics_rules.specs.declared.Tenure.{Tenure}
+use Rattle.forensics_charges.specs.declared.Tenure.{Tenure}
 use Rattle.forensics_charges.specs.Charges.{receipts, ruledBy}
 
 unfoldable pub tenure : Lead → Tenure

@@ -6,7 +6,7 @@ use Rattle.replica.specs.Charges.{Charge}
 use Rattle.submission.specs.Reading.{view}
 use Rattle.forensics.specs.Findings as forensics
 use Rattle.forensics_charges.specs.Charges.{receipts, ruledBy, rowsBy, forkOf}
-use Rattle.forensics_tenures.specs.Tenures.{tenuresOf}
+use Rattle.forensics_find.specs.Tenures.{tenuresOf}
 
 -- what two submissions show, from the terms that are read
 unfoldable pub read : ℕ → List ℕ → List ℕ → forensics.Findings

@@ -6,12 +6,33 @@ ghost use Rattle.roster.specs.Roster.{signatureSize, rosterNumber};
 ghost use Rattle.submission.specs.Reading.{view, laidOut};
 ghost use Rattle.submission.specs.Validate.{within, viewOf, validate};
 ghost use Rattle.forensics.specs.Findings as forensics;
-ghost use Rattle.submission_layout.specs.Parts.{Bounds};
+ghost use Rattle.submission_parts.specs.Parts.{Bounds};
 ghost use Rattle.forensics_charges.specs.Charges as inner;
 ghost use Rattle.forensics_find.specs.Read.{read};
 use forensics_charges::Findings;
+use forensics_charges::Receipts;
 
 pub mod rows;
+pub mod tenures;
+
+// The fork index: the first difference of the logs, where both have committed it; 0 if there is none.
+fn fork(difference: usize, first: Receipts, second: Receipts) -> u32
+    ensures { λ r. ⌜ r ≡ inner.forkOf difference first second ⌝ }
+{
+    let Receipts::Given(x) = first else {
+        return 0;
+    };
+    let Receipts::Given(y) = second else {
+        return 0;
+    };
+    if (x.index as usize) < difference {
+        return 0;
+    }
+    if (y.index as usize) < difference {
+        return 0;
+    }
+    difference as u32
+}
 
 // The fork index and the rows of two laid-out submissions.
 fn found(a: &[u8], b: &[u8], size: usize) -> Findings
@@ -25,10 +46,10 @@ fn found(a: &[u8], b: &[u8], size: usize) -> Findings
         submission_trailer::record_count(a),
         submission_trailer::record_count(b),
     );
-    let first = forensics_tenures::receipts_of(a, size);
-    let second = forensics_tenures::receipts_of(b, size);
+    let first = tenures::receipts_of(a, size);
+    let second = tenures::receipts_of(b, size);
     Findings {
-        fork: log_difference::fork(difference, first, second),
+        fork: fork(difference, first, second),
         rows: rows::rows(difference, a, b, first, second, size),
     }
 }

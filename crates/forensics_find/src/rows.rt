@@ -5,14 +5,15 @@ ghost use mathlib.Core.List.{map, flatMap};
 ghost use Prim.Native.Nat.{_<_};
 ghost use Rattle.submission.specs.Reading.{laidOut};
 ghost use Rattle.forensics.specs.Findings.{lowest};
-ghost use Rattle.submission_layout.specs.Parts.{Bounds};
+ghost use Rattle.submission_parts.specs.Parts.{Bounds};
 ghost use Rattle.forensics_charges.specs.Charges as inner;
 ghost use Rattle.forensics_charges.specs.declared.Receipts.the-variants.{Given};
-ghost use Rattle.forensics_tenures.specs.Tenures.{tenuresOf};
+ghost use Rattle.forensics_find.specs.Tenures.{tenuresOf};
+use super::tenures;
+use forensics_charges::Receipt;
 use forensics_charges::Receipts;
 use forensics_charges::Row;
-use forensics_rules::Receipt;
-use forensics_rules::Tenure;
+use forensics_charges::Tenure;
 
 // The replicas that have a row.
 const ROWS: usize = 9;
@@ -24,10 +25,10 @@ fn against(k: usize, difference: usize, x: Tenure, s: &[u8], size: usize) -> Row
 {
     let mut best = forensics_charges::unnamed();
     let mut left = submission_trailer::leader_count(s);
-    let mut at = submission_layout::leaders_from(s);
+    let mut at = submission_parts::layout::leaders_from(s);
     while 0 < left {
-        let next = submission_reader::certificate_end(s, at, size);
-        let y = forensics_tenures::tenure_at(s, left - 1, at, next);
+        let next = submission_parts::certificate_end(s, at, size);
+        let y = tenures::tenure_at(s, left - 1, at, next);
         best = forensics_charges::lower(best, forensics_charges::between(k, difference, x, y));
         at = next;
         left -= 1;
@@ -42,10 +43,10 @@ fn among_terms(k: usize, difference: usize, a: &[u8], b: &[u8], size: usize) -> 
 {
     let mut best = forensics_charges::unnamed();
     let mut left = submission_trailer::leader_count(a);
-    let mut at = submission_layout::leaders_from(a);
+    let mut at = submission_parts::layout::leaders_from(a);
     while 0 < left {
-        let next = submission_reader::certificate_end(a, at, size);
-        let x = forensics_tenures::tenure_at(a, left - 1, at, next);
+        let next = submission_parts::certificate_end(a, at, size);
+        let x = tenures::tenure_at(a, left - 1, at, next);
         best = forensics_charges::lower(best, against(k, difference, x, b, size));
         at = next;
         left -= 1;
@@ -61,10 +62,10 @@ fn after_given(k: usize, rule: u8, given: Receipt, s: &[u8], size: usize) -> Row
 {
     let mut best = forensics_charges::unnamed();
     let mut left = submission_trailer::leader_count(s);
-    let mut at = submission_layout::leaders_from(s);
+    let mut at = submission_parts::layout::leaders_from(s);
     while 0 < left {
-        let next = submission_reader::certificate_end(s, at, size);
-        let y = forensics_tenures::tenure_at(s, left - 1, at, next);
+        let next = submission_parts::certificate_end(s, at, size);
+        let y = tenures::tenure_at(s, left - 1, at, next);
         best = forensics_charges::lower(best, forensics_charges::after_receipt(k, rule, given, y));
         at = next;
         left -= 1;

@@ -5,7 +5,6 @@ use mathlib.Core.Path.{_≡_, refl, sym, ap, _∙_}
 use mathlib.Core.Bool.{Bool, true, false, not, cond}
 use mathlib.Core.List.{List, [], _∷_}
 use mathlib.Core.Logic.{⊎-elim}
-use mathlib.Core.Option.{Option, some, none}
 use Prim.Native.Nat.{ℕ, zero, suc, _+_, _≤_, _<_}
 use native.Mathlib.Omega.{arith}
 use borrow.Author.Tests.{ne-eqb, ltb-true, lt-ltb, le-leb, lt-leb}
@@ -15,20 +14,15 @@ use Rattle.refusal.specs.Checks.{all}
 use Rattle.refusal.proofs.Laws.{look, all-cons}
 use Rattle.log_chain.specs.Log.{Record}
 use Rattle.replica.specs.Charges.{agree, sameRecord}
-use Rattle.submission.specs.View.{Commit, View, committedBy, committed}
-use Rattle.forensics.specs.Findings.{differAt, fork}
-use Rattle.forensics_rules.specs.declared.Receipt.{Receipt}
-use Rattle.forensics_charges.specs.declared.Receipts.{Receipts}
-use Rattle.forensics_charges.specs.declared.Receipts.the-variants.{Given, Absent}
-use Rattle.forensics_charges.specs.Charges.{receiptsBy, receipts, forkOf}
+use Rattle.forensics.specs.Findings.{differAt}
 
 -- ---- a difference within two lengths
 
 -- an index, 0 for none, that is not above either
-unfoldable inBoth : ℕ → ℕ → ℕ → Bool
+unfoldable pub inBoth : ℕ → ℕ → ℕ → Bool
 inBoth d a b = all (ltb 0 d ∷ leb d a ∷ leb d b ∷ [])
 
-in-both : (d a b : ℕ) → 0 < d → d ≤ a → d ≤ b → inBoth d a b ≡ true
+pub in-both : (d a b : ℕ) → 0 < d → d ≤ a → d ≤ b → inBoth d a b ≡ true
 unfolding inBoth all
 in-both d a b p q r = rw (lt-ltb 0 d p, le-leb d a q, le-leb d b r)
 
@@ -44,15 +38,15 @@ third-fails true true z h = rw (h refl)
 third-fails true false z h = refl
 third-fails false y z h = refl
 
-above-first : (d a b : ℕ) → (0 < d → a < d) → inBoth d a b ≡ false
+pub above-first : (d a b : ℕ) → (0 < d → a < d) → inBoth d a b ≡ false
 unfolding inBoth
 above-first d a b h = second-fails (ltb 0 d) (leb d a) (leb d b) (λ p. lt-leb d a (h (ltb-true 0 d p)))
 
-above-second : (d a b : ℕ) → (0 < d → b < d) → inBoth d a b ≡ false
+pub above-second : (d a b : ℕ) → (0 < d → b < d) → inBoth d a b ≡ false
 unfolding inBoth
 above-second d a b h = third-fails (ltb 0 d) (leb d a) (leb d b) (λ p. lt-leb d b (h (ltb-true 0 d p)))
 
-none-in : (a b : ℕ) → inBoth 0 a b ≡ false
+pub none-in : (a b : ℕ) → inBoth 0 a b ≡ false
 none-in a b = above-first 0 a b (λ h. absurd (omega arith))
 
 -- ---- the first difference
@@ -139,44 +133,3 @@ module _ (a b : ℕ) (l m : List Record) where
       let d = differAt 1 l m in
       ap not (agree-none 0 (take a l) (take b m) ∙ ap (λ x. eqb x 0) differ-take)
       ∙ found (inBoth d a b) d (λ e. ltb-true 0 d (all-cons (ltb 0 d) (leb d a ∷ leb d b ∷ []) e .0))
-
--- ---- the fork
-
-fork-by : (o p : Option Commit) (l m : List Record)
-    → differAt 1 (committedBy o l) (committedBy p m) ≡ forkOf (differAt 1 l m) (receiptsBy o l) (receiptsBy p m)
-unfolding committedBy receiptsBy forkOf differAt
-fork-by none p l m = refl
-fork-by (some c) none l m = differ-nil 1 (take (c .index) l)
-fork-by (some c) (some e) l m = differ-take (c .index) (e .index) l m
-
-pub fork-ruled : (a b : View) → fork a b ≡ forkOf (differAt 1 (a .log) (b .log)) (receipts a) (receipts b)
-unfolding fork committed receipts
-fork-ruled a b = fork-by (a .commit) (b .commit) (a .log) (b .log)
-
--- from the receipts, one after the other
-module _ (d : ℕ) (first second : Receipts) where
-  pub none-first : first ≡ Absent → 0 ≡ forkOf d first second
-  unfolding forkOf
-  none-first e = rw e
-
-  module _ {x : Receipt} (one : first ≡ Given x) where
-    pub none-second : second ≡ Absent → 0 ≡ forkOf d first second
-    unfolding forkOf
-    none-second e = rw (one, e)
-
-    module _ {y : Receipt} (two : second ≡ Given y) where
-      pub beyond-first : x .index < d → 0 ≡ forkOf d first second
-      unfolding forkOf inBoth
-      beyond-first h = rw (one, two, above-first d (x .index) (y .index) (λ p. h))
-
-      pub beyond-second : y .index < d → 0 ≡ forkOf d first second
-      unfolding forkOf inBoth
-      beyond-second h = rw (one, two, above-second d (x .index) (y .index) (λ p. h))
-
-      pub within-both : d ≤ x .index → d ≤ y .index → d ≡ forkOf d first second
-      unfolding forkOf inBoth
-      within-both p q = rw (one, two) (go d (x .index) (y .index) p q)
-        where
-          go : (d a b : ℕ) → d ≤ a → d ≤ b → d ≡ cond (inBoth d a b) d 0
-          go zero a b p q = rw (none-in a b)
-          go (suc d) a b p q = rw (in-both (suc d) a b (omega arith) p q)

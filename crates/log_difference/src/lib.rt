@@ -5,8 +5,6 @@ ghost use lib.ListN.{length, take, drop};
 ghost use Rattle.words.specs.BigEndian.{same};
 ghost use Rattle.submission.specs.Reading.{recordSize, recordsOf};
 ghost use Rattle.forensics.specs.Findings.{differAt};
-ghost use Rattle.forensics_charges.specs.Charges.{forkOf};
-use forensics_charges::Receipts;
 use submission::RECORD_SIZE;
 
 // Whether the bytes of two records at a place are the same.
@@ -34,23 +32,4 @@ pub fn difference(a: &[u8], b: &[u8], first: usize, second: usize) -> usize
         i += 1;
     }
     0
-}
-
-// The fork index: the first difference of the logs, where both have committed it; 0 if there is none.
-pub fn fork(difference: usize, first: Receipts, second: Receipts) -> u32
-    ensures { λ r. ⌜ r ≡ forkOf difference first second ⌝ }
-{
-    let Receipts::Given(x) = first else {
-        return 0;
-    };
-    let Receipts::Given(y) = second else {
-        return 0;
-    };
-    if (x.index as usize) < difference {
-        return 0;
-    }
-    if (y.index as usize) < difference {
-        return 0;
-    }
-    difference as u32
 }

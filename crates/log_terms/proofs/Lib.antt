@@ -1,3 +1,4 @@
 pub mod Records
 pub mod Rising
 pub mod Walks
+pub mod Next

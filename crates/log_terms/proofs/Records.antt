@@ -1,7 +1,7 @@
 -- The records of a submission one by one: the records up to the next are those up to this one and the record here, and the records after
 -- this one are the record here and those after the next. A record's bytes are those of the submission.
 -- Assumes nothing.
-use mathlib.Core.Path.{_≡_}
+use mathlib.Core.Path.{_≡_, refl}
 use mathlib.Core.List.{List, [], _∷_, _++_}
 use Prim.Native.Nat.{ℕ, zero, suc, _+_, _-_, _*_, _≤_, _<_}
 use native.Mathlib.Nat.{mul-zero, mul-suc, add-comm}
@@ -35,6 +35,13 @@ records-snoc w (suc i) s = rw (records-snoc w i (drop (recordSize w) s), record-
 
 pub records-last : (w i : ℕ) (s : List ℕ) → lastTerm (recordsOf w (suc i) s) ≡ recordAt w s i .term
 records-last w i s = rw (records-snoc w i s) (last-snoc (recordsOf w i s) (recordAt w s i))
+
+-- the log up to a record, of the whole log
+pub take-records : (w i count : ℕ) (s : List ℕ) → i ≤ count → take i (recordsOf w count s) ≡ recordsOf w i s
+unfolding recordsOf
+take-records w zero count s h = refl
+take-records w (suc i) zero s h = absurd (omega arith)
+take-records w (suc i) (suc count) s h = rw (take-records w i count (drop (recordSize w) s) (omega arith))
 
 -- ---- those after it
 

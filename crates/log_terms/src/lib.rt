@@ -8,7 +8,16 @@ ghost use Rattle.replica.specs.Ends.{rising};
 ghost use Rattle.submission.specs.View.{run, runs};
 ghost use Rattle.submission.specs.Reading.{recordSize, recordsOf};
 ghost use Rattle.log_terms.specs.Later.{runsLeft};
+use sha256::State;
 use submission::RECORD_SIZE;
+
+pub mod pointers;
+
+// A term's last index, and that record's pointer.
+pub struct Walked {
+    pub end: usize,
+    pub pointer: State,
+}
 
 // The term of record i, 0 for an empty log.
 pub fn last_term(s: &[u8], i: usize) -> u32

@@ -15,8 +15,8 @@ fn put_head(out: &mut [u8], number: u32, place: u32, fork: u32, mask: u16)
     requires { ⌜ 8 ≤ length (now out) ⌝ }
     ensures { λ _. ⌜ now (out .exit) ≡ sets (now (out .entry)) 0 (be 1 number ++ be 1 place ++ be 4 fork ++ be 2 mask) ⌝ }
 {
-    report_rows::put_u8(out, 0, number);
-    report_rows::put_u8(out, 1, place);
+    words::put_u8(out, 0, number);
+    words::put_u8(out, 1, place);
     words::put_u32(out, 2, fork);
     words::put_u16(out, 6, mask);
 }
@@ -26,7 +26,7 @@ fn put_report(out: &mut [u8], number: u32, place: u32, fork: u32, rows: [Row; 9]
     requires { ⌜ reportSize ≤ length (now out) ⌝ }
     ensures { λ _. ⌜ now (out .exit) ≡ reportBytes (answered number place fork rows) ++ drop reportSize (now (out .entry)) ⌝ }
 {
-    put_head(out, number, place, fork, report_mask::named(rows));
+    put_head(out, number, place, fork, report_rows::mask::named(rows));
     report_rows::put_rows(out, rows);
 }
 

@@ -9,13 +9,7 @@ ghost use Rattle.forensics_charges.specs.Charges.{chargeOf};
 ghost use Rattle.report.specs.Report.{reportSize, rowBytes};
 use forensics_charges::Row;
 
-// Writes a number to the byte at a place.
-pub fn put_u8(out: &mut [u8], at: usize, x: u32)
-    requires { ⌜ at < length (now out) ⌝ }
-    ensures { λ _. ⌜ now (out .exit) ≡ sets (now (out .entry)) at (be 1 x) ⌝ }
-{
-    out[at] = (x % 256) as u8;
-}
+pub mod mask;
 
 // The term that is written of a row: 0 if its replica is not named.
 fn term_of(row: Row) -> u32
@@ -29,7 +23,7 @@ fn put_row(out: &mut [u8], at: usize, row: Row)
     requires { ⌜ at + 5 ≤ length (now out) ⌝ }
     ensures { λ _. ⌜ now (out .exit) ≡ sets (now (out .entry)) at (rowBytes (chargeOf row)) ⌝ }
 {
-    put_u8(out, at, row.rule as u32);
+    words::put_u8(out, at, row.rule as u32);
     words::put_u32(out, at + 1, term_of(row));
 }
 

@@ -5,6 +5,8 @@ ghost use lib.ListN.{length};
 ghost use Rattle.lm_format.specs.Format.{keySize};
 ghost use Rattle.roster.specs.Roster as paper;
 
+mod keys;
+
 // The replicas that a roster may have.
 const BOARDS_MIN: usize = 3;
 
@@ -61,7 +63,7 @@ fn typed(roster: &[u8], k: usize) -> bool
 }
 
 // Whether the types of replicas 1 to n are. Rattle has no function parameters, so that this loop and that of
-// `roster_keys::all_single` stand apart; their laws are one (roster/proofs/EveryReplica.antt).
+// `keys::all_single` stand apart; their laws are one (roster/proofs/EveryReplica.antt).
 fn all_typed(roster: &[u8], n: usize) -> bool
     requires { ⌜ paper.headSize + keySize * n ≤ length (now roster) ⌝ }
     ensures { λ r. ⌜ r ≡ paper.everyReplica n (paper.typed (now (roster .entry))) ⌝ }
@@ -87,7 +89,7 @@ pub fn validate(roster: &[u8]) -> u32
     if !all_typed(roster, n) {
         return 3;
     }
-    if !roster_keys::all_single(roster, n) {
+    if !keys::all_single(roster, n) {
         return 4;
     }
     0

@@ -4,3 +4,5 @@ pub mod Certificates
 pub mod Runs
 pub mod Slots
 pub mod Fits
+pub mod Linked
+pub mod Places

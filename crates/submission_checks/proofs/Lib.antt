@@ -1,1 +1,2 @@
+mod CommitIndex
 pub mod Facts

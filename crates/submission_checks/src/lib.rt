@@ -1,14 +1,32 @@
 // The number of the first check that a submission does not meet (document 01, "What stops an audit": the lowest number that applies), each
 // check asked after those before it, for version 1: terms of 4 bytes.
 ghost use mathlib.Core.Path.{_≡_};
-ghost use mathlib.Core.Bool.{cond};
+ghost use mathlib.Core.Bool.{true, cond};
 ghost use lib.Dec.{eqb};
+ghost use lib.ListN.{length};
 ghost use Rattle.refusal.specs.Checks.{refusal};
 ghost use Rattle.roster.specs.Roster.{rosterNumber};
-ghost use Rattle.submission_layout.specs.Parts.{Bounds};
+ghost use Rattle.submission_parts.specs.Parts.{Bounds};
+ghost use Rattle.submission.specs.Reading.{view, laidOut};
 ghost use Rattle.submission.specs.Validate as paper;
 ghost use Rattle.submission_signatures.specs.Checked.{Laid, Counted};
 ghost use Rattle.submission_checks.specs.Checks.{leaderChecks, logChecks, partChecks};
+use submission_parts::CommitPart;
+
+// 14: whether the commit index is not 0 and not above H, where there is one.
+fn index_within_log(s: &[u8], size: usize) -> bool
+    requires { ⌜ Bounds size (now s) × (laidOut 4 size (now s) ≡ true) ⌝ }
+    ensures { λ r. ⌜ r ≡ paper.within (view 4 size (now (s .entry)) .commit) (length (view 4 size (now (s .entry)) .log)) ⌝ }
+{
+    let CommitPart::Found(c, _) = submission_parts::commit_part(s, size) else {
+        return true;
+    };
+    let index = c.index as usize;
+    if index == 0 {
+        return false;
+    }
+    index <= submission_trailer::record_count(s)
+}
 
 // 13 to 15.
 fn leader_number(roster: &[u8], s: &[u8], size: usize) -> u32
@@ -18,11 +36,11 @@ fn leader_number(roster: &[u8], s: &[u8], size: usize) -> u32
     let n = roster::replicas(roster);
     let records = submission_trailer::record_count(s);
     let count = submission_trailer::leader_count(s);
-    let from = submission_layout::leaders_from(s);
+    let from = submission_parts::layout::leaders_from(s);
     if !submission_leaders::all_leading(s, n, size, records, count, from) {
         return 13;
     }
-    if !submission_commit::within(s, size) {
+    if !index_within_log(s, size) {
         return 14;
     }
     if !submission_signatures::all_good(roster, s, size) {
@@ -51,7 +69,7 @@ fn part_number(roster: &[u8], s: &[u8], size: usize) -> u32
     requires { ⌜ (rosterNumber (now roster) ≡ 0) × Bounds size (now s) ⌝ }
     ensures { λ r. ⌜ r ≡ refusal (partChecks (now (roster .entry)) size (now (s .entry))) ⌝ }
 {
-    if !submission_layout::laid_out(s, size) {
+    if !submission_parts::layout::laid_out(s, size) {
         return 9;
     }
     let n = roster::replicas(roster);

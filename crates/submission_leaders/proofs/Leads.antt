@@ -20,33 +20,6 @@ use Rattle.submission.specs.Reading.{ballotSize, ballotAt, signersAt}
 use Rattle.submission.specs.Validate.{leading}
 use Rattle.submission_leaders.specs.Leads.{follows, elected}
 
--- ---- where the fields stand
-
-module _ (s : List ℕ) (at : ℕ) where
-  pub candidate-at : numberAt 2 s at ≡ ballotAt 4 s at .candidate
-  unfolding ballotAt
-  candidate-at = refl
-
-  pub term-at : numberAt 4 s (at + 2) ≡ ballotAt 4 s at .term
-  unfolding ballotAt
-  term-at = refl
-
-  pub last-term-at : numberAt 4 s (at + 6) ≡ ballotAt 4 s at .lastTerm
-  unfolding ballotAt
-  last-term-at = simp add-assoc
-
-  pub last-index-at : numberAt 4 s (at + 10) ≡ ballotAt 4 s at .lastIndex
-  unfolding ballotAt
-  last-index-at = simp add-assoc
-
-  pub last-pointer-at : take 32 (drop (at + 14) s) ≡ ballotAt 4 s at .lastPointer
-  unfolding ballotAt
-  last-pointer-at = simp add-assoc
-
-  pub signers-at : numberAt 2 s (at + 46) ≡ signersAt s (at + ballotSize 4)
-  unfolding signersAt ballotSize
-  signers-at = refl
-
 -- ---- tests in a row
 
 last-test : (b : Bool) → b ≡ cond b true false

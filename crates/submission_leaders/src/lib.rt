@@ -7,7 +7,7 @@ ghost use Rattle.sha256.specs.Sha256.{bytesOf};
 ghost use Rattle.refusal.specs.Checks.{every};
 ghost use Rattle.log_chain.specs.Log.{version1, pointer};
 ghost use Rattle.submission.specs.View.{run, runs, leadsOf};
-ghost use Rattle.submission.specs.Reading.{recordSize, recordsOf, ballotAt, signersAt, ballotSize, certificateAt, certificateEnd, certificates, certificatesEnd};
+ghost use Rattle.submission.specs.Reading.{recordSize, recordsOf, ballotAt, signersAt, ballotSize, certificateAt, certificates, certificatesEnd};
 ghost use Rattle.submission_leaders.specs.Leads as parts;
 ghost use Rattle.submission.specs.Validate as paper;
 use sha256::State;
@@ -15,7 +15,6 @@ use submission::BALLOT_SIZE;
 use submission::LAST_INDEX_AT;
 use submission::LAST_POINTER_AT;
 use submission::LAST_TERM_AT;
-use submission::SIGNERS_SIZE;
 use submission::TERM_AT;
 
 // Whether the last term, index and pointer of the certificate at a place are those of the first i records.
@@ -64,16 +63,6 @@ fn leading(s: &[u8], n: usize, at: usize, i: usize, end: usize, before: State) -
     elected(s, at, n)
 }
 
-// The place after the certificate at a place, which lies inside. That of `reader` may lie outside: it needs room for the fields alone, and bounds on the
-// rest.
-pub fn certificate_end(s: &[u8], size: usize, at: usize) -> usize
-    requires { ⌜ certificateEnd 4 size (now s) at ≤ length (now s) ⌝ }
-    ensures { λ r. ⌜ r ≡ certificateEnd 4 size (now (s .entry)) at ⌝ }
-{
-    let signers = words::u16_at(s, at + BALLOT_SIZE);
-    at + BALLOT_SIZE + SIGNERS_SIZE + size * (u16::count_ones(signers) as usize)
-}
-
 // 13: whether each certificate is that of its term.
 pub fn all_leading(
     s: &[u8],
@@ -89,13 +78,13 @@ pub fn all_leading(
     let mut left = leaders;
     let mut place = at;
     let mut i = 0;
-    let mut before = log_pointers::pointer_zero();
+    let mut before = log_terms::pointers::pointer_zero();
     while 0 < left {
-        let walked = log_pointers::next_run(s, records, i, before);
+        let walked = log_terms::pointers::next_run(s, records, i, before);
         if !leading(s, n, place, i, walked.end, before) {
             return false;
         }
-        place = certificate_end(s, size, place);
+        place = submission_parts::certificate_end(s, place, size);
         i = walked.end;
         before = walked.pointer;
         left -= 1;

@@ -8,20 +8,20 @@ use native.Mathlib.Omega.{arith}
 use borrow.Author.Tests.{not-true, not-false}
 use Rattle.refusal.specs.Checks.{every}
 use Rattle.refusal.proofs.Laws.{every-append}
-use Rattle.submission_reader.specs.declared.Certificate.{Certificate as Numbers}
-use Rattle.submission_reader.specs.declared.Reading.the-variants.{Read, Refused}
-use Rattle.submission_reader.specs.declared.Commit.{Commit}
-use Rattle.submission_commit.specs.declared.CommitPart.the-variants.{Found, Absent}
+use Rattle.submission_parts.specs.declared.Certificate.{Certificate as Numbers}
+use Rattle.submission_parts.specs.declared.Reading.the-variants.{Read, Refused}
+use Rattle.submission_parts.specs.declared.Commit.{Commit}
+use Rattle.submission_parts.specs.declared.CommitPart.the-variants.{Found, Absent}
 use Rattle.submission.specs.Trailer.{leaderCount}
 use Rattle.submission.specs.View.{Certificate}
 use Rattle.submission.specs.Reading.{ballotSize, signersAt, certificateAt, certificateEnd, certificates, certificatesEnd, commitAt, leadersFrom, commitOf, view}
-use Rattle.submission_reader.specs.Reader.{numbersAt, commitNumbersAt, reading}
-use Rattle.submission_commit.specs.Commits.{commitPart}
+use Rattle.submission_parts.specs.Reader.{numbersAt, commitNumbersAt, reading}
+use Rattle.submission_parts.specs.Commits.{commitPart}
 use Rattle.submission_quorums.specs.Signers.{leaderMasks}
 use Rattle.submission.specs.Validate.{quorate, commitSigners, masks}
-use Rattle.submission_commit.proofs.Commits.{absent-says, found-says}
+use Rattle.submission_parts.proofs.Commits.{absent-says, found-says}
 use Rattle.submission.proofs.Certificates.{certificates-from, certificates-first, end-first}
-use Rattle.submission_reader.proofs.Readings.{refused-passes, read-says}
+use Rattle.submission_parts.proofs.Readings.{refused-passes, read-says}
 
 -- ---- the leader certificates that are left, and whose answer is b
 

@@ -5,12 +5,12 @@ ghost use Prim.Native.Nat.{_≤_, _<_};
 ghost use lib.ListN.{length};
 ghost use Rattle.refusal.specs.Checks.{every};
 ghost use Rattle.submission.specs.Reading.{certificatesEnd, commitOf, view, laidOut};
-ghost use Rattle.submission_reader.specs.Reader.{signatureMost};
-ghost use Rattle.submission_layout.specs.Parts.{Bounds};
+ghost use Rattle.submission_parts.specs.Reader.{signatureMost};
+ghost use Rattle.submission_parts.specs.Parts.{Bounds};
 ghost use Rattle.submission_quorums.specs.Signers.{leaderMasks};
 ghost use Rattle.submission.specs.Validate as paper;
-use submission_commit::CommitPart;
-use submission_reader::Reading;
+use submission_parts::CommitPart;
+use submission_parts::Reading;
 
 // Whether a mask has a quorum of n replicas, and no bit above replica n.
 pub fn quorate(n: usize, mask: u16) -> bool
@@ -32,7 +32,7 @@ fn leaders_quorate(s: &[u8], n: usize, count: usize, from: usize, end: usize, si
     let mut at = from;
     let mut left = count;
     while 0 < left {
-        let Reading::Read(c, next) = submission_reader::read(s, at, end, size) else {
+        let Reading::Read(c, next) = submission_parts::read(s, at, end, size) else {
             return false;
         };
         if !quorate(n, c.signers) {
@@ -49,7 +49,7 @@ fn commit_quorate(s: &[u8], n: usize, size: usize) -> bool
     requires { ⌜ (0 < n) × (n ≤ 9) × Bounds size (now s) × (laidOut 4 size (now s) ≡ true) ⌝ }
     ensures { λ r. ⌜ r ≡ every (paper.quorate n) (paper.commitSigners (commitOf 4 size (now (s .entry)))) ⌝ }
 {
-    let CommitPart::Found(commit, _) = submission_commit::commit_part(s, size) else {
+    let CommitPart::Found(commit, _) = submission_parts::commit_part(s, size) else {
         return true;
     };
     quorate(n, commit.signers)
@@ -61,7 +61,7 @@ pub fn all_quorate(s: &[u8], n: usize, size: usize) -> bool
     ensures { λ r. ⌜ r ≡ every (paper.quorate n) (paper.masks (view 4 size (now (s .entry)))) ⌝ }
 {
     let end = submission_trailer::trailer_at(s);
-    let from = submission_layout::leaders_from(s);
+    let from = submission_parts::layout::leaders_from(s);
     if !leaders_quorate(s, n, submission_trailer::leader_count(s), from, end, size) {
         return false;
     }

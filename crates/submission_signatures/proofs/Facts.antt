@@ -22,8 +22,8 @@ use Rattle.submission.specs.Validate.{quorate, commitSigners, masks, oneEach, w
 use Rattle.submission.proofs.Accepted.{length-certificates}
 use Rattle.submission.proofs.Fits.{length-records}
 use Rattle.submission.proofs.Slots.{quorate-facts}
-use Rattle.submission_layout.proofs.Inside.{records-inside, leaders-inside, commit-inside}
-use Rattle.submission_certified.specs.Votes.{quorateAll}
+use Rattle.submission_parts.proofs.Inside.{records-inside, leaders-inside, commit-inside}
+use Rattle.submission_signatures.specs.Votes.{quorateAll}
 use Rattle.submission_signatures.specs.Checked.{Laid}
 
 module _ (roster : List ℕ) (S : ℕ) (s : List ℕ) where

@@ -11,7 +11,7 @@ use lib.ListN.{length}
 use Rattle.refusal.specs.Checks.{every}
 use Rattle.refusal.proofs.Laws.{every-append}
 use Rattle.submission.specs.View.{Certificate, Commit, Run, runs, View, leadsOf, leads, Slot, votesOf, stampOf, receiptsOf, slots}
-use Rattle.submission_certified.specs.Votes.{ballots}
+use Rattle.submission_signatures.specs.Votes.{ballots}
 
 -- ---- two tests
 

@@ -1,2 +1,5 @@
 pub mod Facts
 pub mod Fifteen
+pub mod Said
+pub mod Turns
+mod StampsLeft

@@ -9,7 +9,7 @@ use Rattle.roster.specs.Roster.{replicas, rosterNumber}
 use Rattle.submission.specs.View.{leads}
 use Rattle.submission.specs.Reading.{view, laidOut}
 use Rattle.submission.specs.Validate.{quorate, masks, oneEach, leading, within, formOf}
-use Rattle.submission_layout.specs.Parts.{Bounds}
+use Rattle.submission_parts.specs.Parts.{Bounds}
 
 module _ (roster : List ℕ) (S : ℕ) (s : List ℕ) where
   -- 2 to 10

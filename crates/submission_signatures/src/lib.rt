@@ -12,21 +12,23 @@ ghost use Rattle.submission.specs.Reading.{recordsOf, view};
 ghost use Rattle.submission.specs.Validate.{genuine, formOf};
 ghost use Rattle.submission_signatures.specs.Checked.{Checked};
 use sha256::State;
-use submission_certified::receipts;
-use submission_certified::votes;
-use submission_commit::CommitPart;
+use submission_parts::CommitPart;
+
+pub mod receipts;
+pub mod stamps;
+pub mod votes;
 
 // Whether the stamps are good, from the pointer of record i.
-fn stamps_good(roster: &[u8], s: &[u8], size: usize, i: usize, before: State) -> bool
+fn stamps_good_from(roster: &[u8], s: &[u8], size: usize, i: usize, before: State) -> bool
     requires { ⌜ Checked (now roster) size (now s) × (i ≤ recordCount (now s)) × (bytesOf before ≡ chain.pointer (chain.version1 []) (recordsOf 4 i (now s))) ⌝ }
     ensures { λ r. ⌜ r ≡ every (genuine (formOf (now (roster .entry))) (now (roster .entry))) (map (stampOf size) (leads (view 4 size (now (s .entry))))) ⌝ }
 {
     let records = submission_trailer::record_count(s);
-    let end = log_pointers::pointer_after(s, i, records, before);
+    let end = log_terms::pointers::pointer_after(s, i, records, before);
     let leaders = submission_trailer::leader_count(s);
-    let from = submission_layout::leaders_from(s);
-    let stamps = submission_layout::stamps_from(s);
-    submission_stamps::stamps_good(roster, s, size, records, leaders, from, stamps, end)
+    let from = submission_parts::layout::leaders_from(s);
+    let stamps = submission_parts::layout::stamps_from(s);
+    stamps::stamps_good(roster, s, size, records, leaders, from, stamps, end)
 }
 
 // Whether the stamps and the receipts are good. Each record is hashed once: first up to the commit index, whose pointer the receipts have, then
@@ -36,12 +38,17 @@ fn places_good(roster: &[u8], s: &[u8], size: usize) -> bool
     ensures { λ r. ⌜ r ≡ cond (every (genuine (formOf (now (roster .entry))) (now (roster .entry))) (map (stampOf size) (leads (view 4 size (now (s .entry))))))
         (every (genuine (formOf (now (roster .entry))) (now (roster .entry))) (receiptsOf size (view 4 size (now (s .entry)) .commit) (view 4 size (now (s .entry)) .log))) false ⌝ }
 {
-    let CommitPart::Found(c, at) = submission_commit::commit_part(s, size) else {
-        return stamps_good(roster, s, size, 0, log_pointers::pointer_zero());
+    let CommitPart::Found(c, at) = submission_parts::commit_part(s, size) else {
+        return stamps_good_from(roster, s, size, 0, log_terms::pointers::pointer_zero());
     };
     let index = c.index as usize;
-    let pointer = log_pointers::pointer_after(s, 0, index, log_pointers::pointer_zero());
-    if !stamps_good(roster, s, size, index, pointer) {
+    let pointer = log_terms::pointers::pointer_after(
+        s,
+        0,
+        index,
+        log_terms::pointers::pointer_zero(),
+    );
+    if !stamps_good_from(roster, s, size, index, pointer) {
         return false;
     }
     receipts::receipts_good(
@@ -60,7 +67,7 @@ pub fn all_good(roster: &[u8], s: &[u8], size: usize) -> bool
     ensures { λ r. ⌜ r ≡ every (genuine (formOf (now (roster .entry))) (now (roster .entry))) (slots size (view 4 size (now (s .entry)))) ⌝ }
 {
     let leaders = submission_trailer::leader_count(s);
-    let from = submission_layout::leaders_from(s);
+    let from = submission_parts::layout::leaders_from(s);
     if !votes::votes_good(roster, s, size, leaders, from) {
         return false;
     }

@@ -1,4 +1,4 @@
-// Big-endian unsigned numbers of 2 and 4 bytes, read at a place of a slice and written to one
+// Big-endian unsigned numbers of 1, 2 and 4 bytes, read at a place of a slice and written to one
 // (document 01, "The parts ordered").
 ghost use mathlib.Core.Path.{_≡_};
 ghost use Prim.Native.Nat.{_+_, _≤_, _<_};
@@ -27,6 +27,14 @@ pub fn u32_at(s: &[u8], at: usize) -> u32
     ensures { λ r. ⌜ (r ≡ numberAt 4 (now (s .entry)) at) × (r < 4294967296) ⌝ }
 {
     wide(s[at]) * 16777216 + wide(s[at + 1]) * 65536 + wide(s[at + 2]) * 256 + wide(s[at + 3])
+}
+
+// Writes a number to the byte at a place.
+pub fn put_u8(out: &mut [u8], at: usize, x: u32)
+    requires { ⌜ at < length (now out) ⌝ }
+    ensures { λ _. ⌜ now (out .exit) ≡ sets (now (out .entry)) at (be 1 x) ⌝ }
+{
+    out[at] = (x % 256) as u8;
 }
 
 // Writes a number to the 2 bytes at a place.

@@ -2,7 +2,7 @@
 -- Assumes nothing.
 use native.Mathlib.Omega.{arith}
 use Rattle.submission.specs.Reading.{recordSize}
-use Rattle.submission_layout.proofs.Inside.{records-inside}
+use Rattle.submission_parts.proofs.Inside.{records-inside}
 use Rattle.forensics_find.proofs.Shown.{read-says}
 use borrow.Author.Needs.{needs}
 use Rattle.forensics_find.proofs.found.Statement.{statement}

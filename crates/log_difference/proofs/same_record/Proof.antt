@@ -1,5 +1,5 @@
 -- The kit's comparison of the bytes of the two records.
--- The needs are the ends of a record's part, as in `log_pointers::step`; what is done with the part is not the same.
+-- The needs are the ends of a record's part, as in `log_terms::pointers::step`; what is done with the part is not the same.
 -- Assumes nothing.
 use mathlib.Core.Path.{_≡_}
 use Prim.Native.Nat.{_+_, _-_}

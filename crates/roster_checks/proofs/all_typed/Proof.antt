@@ -1,5 +1,5 @@
 -- One replica a turn: the replicas that are left give what all of them give.
--- The loop of `roster_keys::all_single` with another test, since a function cannot be handed one. What both argue stands in `roster/proofs/EveryReplica.antt`.
+-- The loop of `roster_checks::keys::all_single` with another test, since a function cannot be handed one. What both argue stands in `roster/proofs/EveryReplica.antt`.
 -- Assumes nothing.
 use mathlib.Core.Path.{_≡_, refl}
 use Prim.Native.Nat.{_≤_}

@@ -34,7 +34,7 @@ unfolding leaderChecks
 returns-2 c =
     let a = c .before .before .before .before .before .before .before .before .before .before .args in
     let led = asked-leading (a .roster .now) (a .size) (a .s .now) (c .before .before .before .before .before .before .before .replicas .ensures .0) (c .before .before .before .before .before .before .record-count .ensures .0) (c .before .before .before .before .before .leader-count .ensures .0) (c .before .before .before .before .leaders-from .ensures) (c .before .before .before .all-leading .ensures) in
-    sym (passed 13 _ _ (sym led ∙ not-false _ (c .before .before .if1 .left)) ∙ refused 14 _ _ (sym (c .before .within .ensures) ∙ not-true _ (c .if2 .taken)))
+    sym (passed 13 _ _ (sym led ∙ not-false _ (c .before .before .if1 .left)) ∙ refused 14 _ _ (sym (c .before .index-within-log .ensures) ∙ not-true _ (c .if2 .taken)))
 
 all-good-requires : tie.Need-all-good-requires
 all-good-requires c κs =
@@ -43,7 +43,7 @@ all-good-requires c κs =
     record {
       counted = c .before .before .before .before .before .before .before .before .before .before .pre;
       leaders = sym led ∙ not-false _ (c .before .before .if1 .left);
-      commit = sym (c .before .within .ensures) ∙ not-false _ (c .if2 .left);
+      commit = sym (c .before .index-within-log .ensures) ∙ not-false _ (c .if2 .left);
     }
 
 returns-3 : tie.Need-returns-3
@@ -51,14 +51,14 @@ unfolding leaderChecks
 returns-3 c =
     let a = c .before .before .before .before .before .before .before .before .before .before .before .before .args in
     let led = asked-leading (a .roster .now) (a .size) (a .s .now) (c .before .before .before .before .before .before .before .before .before .replicas .ensures .0) (c .before .before .before .before .before .before .before .before .record-count .ensures .0) (c .before .before .before .before .before .before .before .leader-count .ensures .0) (c .before .before .before .before .before .before .leaders-from .ensures) (c .before .before .before .before .before .all-leading .ensures) in
-    sym (passed 13 _ _ (sym led ∙ not-false _ (c .before .before .before .before .if1 .left)) ∙ passed 14 _ _ (sym (c .before .before .before .within .ensures) ∙ not-false _ (c .before .before .if2 .left))
+    sym (passed 13 _ _ (sym led ∙ not-false _ (c .before .before .before .before .if1 .left)) ∙ passed 14 _ _ (sym (c .before .before .before .index-within-log .ensures) ∙ not-false _ (c .before .before .if2 .left))
     ∙ refused 15 _ _ (sym (c .before .all-good .ensures) ∙ not-true _ (c .if3 .taken)))
 
 returns-4 : tie.Need-returns-4
 returns-4 c =
     let a = c .before .before .before .before .before .before .before .before .before .before .before .before .args in
     let led = asked-leading (a .roster .now) (a .size) (a .s .now) (c .before .before .before .before .before .before .before .before .before .replicas .ensures .0) (c .before .before .before .before .before .before .before .before .record-count .ensures .0) (c .before .before .before .before .before .before .before .leader-count .ensures .0) (c .before .before .before .before .before .before .leaders-from .ensures) (c .before .before .before .before .before .all-leading .ensures) in
-    leaders-passed (a .roster .now) (a .size) (a .s .now) (sym led ∙ not-false _ (c .before .before .before .before .if1 .left)) (sym (c .before .before .before .within .ensures) ∙ not-false _ (c .before .before .if2 .left))
+    leaders-passed (a .roster .now) (a .size) (a .s .now) (sym led ∙ not-false _ (c .before .before .before .before .if1 .left)) (sym (c .before .before .before .index-within-log .ensures) ∙ not-false _ (c .before .before .if2 .left))
     (sym (c .before .all-good .ensures) ∙ not-false _ (c .if3 .left))
 
 pub leader-number-spec : {M : Type 1} → statement M

@@ -7,7 +7,7 @@ use borrow.Author.Tests.{not-true, not-false}
 use Rattle.refusal.proofs.Laws.{passed, refused}
 use Rattle.roster.proofs.Accepted.{sizes, signature-bounds}
 use Rattle.submission.specs.Validate.{validate}
-use Rattle.submission_layout.proofs.Inside.{bounds}
+use Rattle.submission_parts.proofs.Inside.{bounds}
 use Rattle.submission_checks.proofs.Facts.{sized-long, trailer-passed}
 use Rattle.submission_checks.proofs.number.Statement.{statement}
 use Rattle.submission_checks.proofs.number.Tie as tie

@@ -6,7 +6,8 @@ use native.Mathlib.Omega.{arith}
 use borrow.Author.Needs.{needs}
 use Rattle.roster.specs.Masks.{signer}
 use Rattle.submission.specs.Reading.{ballotSize, signersAt}
-use Rattle.submission_leaders.proofs.Leads.{candidate-at, signers-at, no-replica, above-replicas, by-signer}
+use Rattle.submission.proofs.Places.{candidate-at, signers-at}
+use Rattle.submission_leaders.proofs.Leads.{no-replica, above-replicas, by-signer}
 use Rattle.submission_leaders.proofs.elected.Statement.{statement}
 use Rattle.submission_leaders.proofs.elected.Tie as tie
 

@@ -5,7 +5,7 @@ use native.Mathlib.Omega.{arith}
 use borrow.Author.Needs.{needs}
 use borrow.Author.Tests.{not-true, not-false}
 use Rattle.submission.specs.Reading.{leadersFrom}
-use Rattle.submission_layout.proofs.Inside.{leaders-inside}
+use Rattle.submission_parts.proofs.Inside.{leaders-inside}
 use Rattle.submission_quorums.proofs.Quorums.{leaders-fail, leaders-hold}
 use Rattle.submission_quorums.proofs.all_quorate.Statement.{statement}
 use Rattle.submission_quorums.proofs.all_quorate.Tie as tie

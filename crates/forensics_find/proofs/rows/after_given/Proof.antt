@@ -5,10 +5,10 @@ use native.Mathlib.Omega.{arith}
 use Rattle.forensics.specs.Findings.{lowest}
 use Rattle.replica.specs.Charges.{charge}
 use Rattle.forensics_charges.specs.declared.Receipts.the-variants.{Given}
-use Rattle.forensics_rules.specs.Rules.{forgotten}
+use Rattle.forensics_charges.specs.Rules.{forgotten}
 use Rattle.forensics_charges.specs.Charges.{chargeOf, afterReceipts}
-use Rattle.forensics_tenures.specs.Tenures.{tenuresOf}
-use Rattle.forensics_find.proofs.Left.{RowsLeft, rows-all, first-inside, next-inside, rows-next, rows-done}
+use Rattle.forensics_find.specs.Tenures.{tenuresOf}
+use Rattle.forensics_find.proofs.Left.{RowsLeft, rows-all, first-inside, next-inside, rows-next, rows-done, end-inside}
 use borrow.Author.Needs.{needs}
 use Rattle.forensics_find.proofs.rows.after_given.Statement.{statement}
 use Rattle.forensics_find.proofs.rows.after_given.Tie as tie
@@ -41,8 +41,7 @@ certificate-end-requires c κs =
     let start = c .before .before .before .before .before .before in
     let a = start .args in
     let l = c .before .loop in
-    let p = start .pre .2 in
-    (first-inside (a .size) (a .s .now) _ _ (l .left) (l .at) (l .inv) (omega arith), p .short, p .signature)
+    end-inside (a .size) (a .s .now) _ _ (l .left) (l .at) (l .inv) (omega arith)
 
 tenure-at-requires : tie.Need-tenure-at-requires Inv-loop μ-loop
 tenure-at-requires c κs =

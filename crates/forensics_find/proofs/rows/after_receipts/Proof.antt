@@ -4,7 +4,7 @@ use mathlib.Core.Path.{sym, ap, _∙_}
 use Rattle.forensics_charges.specs.declared.Receipts.{Receipts}
 use Rattle.forensics.specs.Findings.{lowest}
 use Rattle.forensics_charges.specs.Charges.{afterReceipts}
-use Rattle.forensics_tenures.specs.Tenures.{tenuresOf}
+use Rattle.forensics_find.specs.Tenures.{tenuresOf}
 use borrow.Author.Needs.{needs}
 use Rattle.forensics_find.proofs.rows.after_receipts.Statement.{statement}
 use Rattle.forensics_find.proofs.rows.after_receipts.Tie as tie

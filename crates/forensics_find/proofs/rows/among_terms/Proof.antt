@@ -4,8 +4,8 @@ use mathlib.Core.List.{flatMap}
 use native.Mathlib.Omega.{arith}
 use Rattle.forensics.specs.Findings.{lowest}
 use Rattle.forensics_charges.specs.Charges.{chargeOf, between, amongTerms}
-use Rattle.forensics_tenures.specs.Tenures.{tenuresOf}
-use Rattle.forensics_find.proofs.Left.{RowsLeft, rows-all, first-inside, next-inside, rows-next, rows-done}
+use Rattle.forensics_find.specs.Tenures.{tenuresOf}
+use Rattle.forensics_find.proofs.Left.{RowsLeft, rows-all, first-inside, next-inside, rows-next, rows-done, end-inside}
 use borrow.Author.Needs.{needs}
 use Rattle.forensics_find.proofs.rows.among_terms.Statement.{statement}
 use Rattle.forensics_find.proofs.rows.among_terms.Tie as tie
@@ -38,8 +38,7 @@ certificate-end-requires c κs =
     let start = c .before .before .before .before .before .before .before in
     let a = start .args in
     let l = c .before .loop in
-    let p = start .pre .1 in
-    (first-inside (a .size) (a .a .now) _ _ (l .left) (l .at) (l .inv) (omega arith), p .short, p .signature)
+    end-inside (a .size) (a .a .now) _ _ (l .left) (l .at) (l .inv) (omega arith)
 
 tenure-at-requires : tie.Need-tenure-at-requires Inv-loop μ-loop
 tenure-at-requires c κs =

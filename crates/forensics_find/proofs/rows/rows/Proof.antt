@@ -5,7 +5,7 @@ use Prim.Native.Nat.{_-_}
 use native.Mathlib.Omega.{arith}
 use Rattle.forensics.specs.Findings.{lowest}
 use Rattle.forensics_charges.specs.Charges.{ruledBy, rowsBy}
-use Rattle.forensics_tenures.specs.Tenures.{tenuresOf}
+use Rattle.forensics_find.specs.Tenures.{tenuresOf}
 use Rattle.forensics_find.proofs.Replicas.{Filled, fill, filled}
 use Rattle.forensics_find.proofs.rows.rows.Statement.{statement}
 use Rattle.forensics_find.proofs.rows.rows.Tie as tie

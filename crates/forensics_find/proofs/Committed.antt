@@ -1,0 +1,49 @@
+-- The receipts of a submission are those of its commit certificate, for the log up to the record that it names.
+-- Assumes nothing.
+use mathlib.Core.Path.{_≡_}
+use mathlib.Core.Bool.{true}
+use mathlib.Core.List.{List}
+use Prim.Native.Nat.{ℕ, _*_, _≤_}
+use native.Mathlib.Omega.{arith}
+use borrow.Author.Tests.{leb-true}
+use lib.ListN.{length}
+use Rattle.refusal.proofs.Laws.{all-cons}
+use Rattle.log_chain.specs.Log.{lastTerm}
+use Rattle.submission.specs.Trailer.{recordCount}
+use Rattle.submission.specs.Reading.{recordSize, recordsOf, commitAt, view, laidOut}
+use Rattle.submission.specs.Validate.{within}
+use Rattle.submission.proofs.Fits.{length-records}
+use Rattle.submission_parts.specs.declared.Commit.{Commit}
+use Rattle.submission_parts.specs.declared.CommitPart.the-variants.{Found, Absent as NoPart}
+use Rattle.submission_parts.specs.Reader.{commitNumbersAt}
+use Rattle.submission_parts.specs.Commits.{commitPart}
+use Rattle.submission_parts.proofs.Commits.{absent-says, found-says}
+use Rattle.submission_parts.proofs.Inside.{records-inside}
+use Rattle.log_terms.proofs.Records.{take-records}
+use Rattle.forensics_charges.specs.declared.Receipts.the-variants.{Given, Absent}
+use Rattle.forensics_charges.specs.Charges.{receiptsBy, receipts}
+
+module _ (S : ℕ) (s : List ℕ) where
+  pub no-receipts : commitPart S s ≡ NoPart → Absent ≡ receipts (view 4 S s)
+  unfolding receipts receiptsBy view
+  no-receipts e = rw (absent-says S s e)
+
+  module _ {c : Commit} {at : ℕ} (e : commitPart S s ≡ Found c at) (inside : within (view 4 S s .commit) (length (view 4 S s .log)) ≡ true) where
+    index-inside : commitAt s at .index ≤ recordCount s
+    unfolding view within
+    index-inside =
+        let test = rw (found-says S s e .2, length-records) at inside in
+        leb-true (commitAt s at .index) (recordCount s) (all-cons _ _ (all-cons _ _ test .1) .0)
+
+    pub record-inside : laidOut 4 S s ≡ true → recordSize 4 * c .index ≤ length s
+    unfolding recordSize commitNumbersAt
+    record-inside laid =
+        rw (found-says S s e .0) (omega (arith, index-inside, records-inside S s laid))
+
+    pub some-receipts : {term : ℕ} → term ≡ lastTerm (recordsOf 4 (c .index) s)
+        → Given (record { term = term; index = c .index; signers = c .signers }) ≡ receipts (view 4 S s)
+    unfolding receipts receiptsBy view commitNumbersAt
+    some-receipts h =
+        let says = found-says S s e in
+        let whole = take-records 4 (commitAt s at .index) (recordCount s) s index-inside in
+        rw (h, says .0, says .2, whole)

@@ -1,2 +1,0 @@
-mod Committed
-mod Numbers

@@ -1,2 +1,0 @@
-pub mod Commits
-mod Examples

@@ -1,0 +1,6 @@
+mod Examples
+pub mod Readings
+pub mod Inside
+pub mod Standing
+pub mod Commits
+mod CommitExamples

@@ -1,0 +1,3 @@
+pub mod Reader
+pub mod Parts
+pub mod Commits

@@ -1,0 +1,165 @@
+// The readers of certificates: the fields with the next place, or a refusal where the certificate does not lie before an end (document 01,
+// "A submission, read from its trailer").
+ghost use mathlib.Core.Path.{_≡_};
+ghost use mathlib.Core.Bool.{true};
+ghost use Prim.Native.Nat.{_+_, _*_, _≤_};
+ghost use lib.Count.{ones};
+ghost use lib.ListN.{length};
+ghost use Rattle.submission.specs.Reading.{certificateEnd, certificatesEnd, commitEnd, laidOut};
+ghost use Rattle.submission.specs.Validate.{submissionMost};
+ghost use Rattle.submission_parts.specs.Reader as inner;
+ghost use Rattle.submission_parts.specs.Parts.{Bounds};
+ghost use Rattle.submission_parts.specs.Commits.{commitPart};
+use submission::BALLOT_SIZE;
+use submission::COMMIT_FIELDS_SIZE;
+use submission::COMMIT_SIGNERS_AT;
+use submission::LAST_INDEX_AT;
+use submission::LAST_TERM_AT;
+use submission::SIGNERS_SIZE;
+use submission::TERM_AT;
+
+pub mod layout;
+
+// The numbers of a leader certificate.
+pub struct Certificate {
+    pub candidate: u16,
+    pub term: u32,
+    pub last_term: u32,
+    pub last_index: u32,
+    pub signers: u16,
+}
+
+// A leader certificate that was read, with the next place.
+pub enum Reading {
+    Read(Certificate, usize),
+    Refused,
+}
+
+// The place after so many leader certificates.
+pub enum Place {
+    At(usize),
+    Refused,
+}
+
+// The numbers of a commit certificate.
+pub struct Commit {
+    pub index: u32,
+    pub signers: u16,
+}
+
+// A commit certificate that was read, with the next place.
+pub enum CommitReading {
+    Read(Commit, usize),
+    Refused,
+}
+
+// Part 4: a commit certificate and its place, or none.
+pub enum CommitPart {
+    Found(Commit, usize),
+    Absent,
+}
+
+// The bytes of a mask's signatures: one for each of the ones among its sixteen bits.
+fn signatures_size(mask: u16, size: usize) -> usize
+    requires { ⌜ size ≤ inner.signatureMost ⌝ }
+    ensures { λ r. ⌜ (r ≡ size * ones mask) × (r ≤ 16 * inner.signatureMost) ⌝ }
+{
+    size * (u16::count_ones(mask) as usize)
+}
+
+// The place after a leader certificate that lies inside.
+pub fn certificate_end(s: &[u8], at: usize, size: usize) -> usize
+    requires { ⌜ certificateEnd 4 size (now s) at ≤ length (now s) ⌝ }
+    ensures { λ r. ⌜ r ≡ certificateEnd 4 size (now (s .entry)) at ⌝ }
+{
+    let signers = words::u16_at(s, at + BALLOT_SIZE);
+    at + BALLOT_SIZE + SIGNERS_SIZE + size * (u16::count_ones(signers) as usize)
+}
+
+// The leader certificate at a place.
+pub fn read(s: &[u8], at: usize, end: usize, size: usize) -> Reading
+    requires { ⌜ (at ≤ end) × (end ≤ length (now s)) × (length (now s) ≤ submissionMost) × (size ≤ inner.signatureMost) ⌝ }
+    ensures { λ r. ⌜ (r ≡ inner.reading size (now (s .entry)) at end) × (inner.readingNumber r ≡ inner.endNumber (certificateEnd 4 size (now (s .entry)) at) end) ⌝ }
+{
+    if end < at + BALLOT_SIZE + SIGNERS_SIZE {
+        return Reading::Refused;
+    }
+    let signers = words::u16_at(s, at + BALLOT_SIZE);
+    let next = at + BALLOT_SIZE + SIGNERS_SIZE + signatures_size(signers, size);
+    if end < next {
+        return Reading::Refused;
+    }
+    let numbers = numbers_at(s, at);
+    Reading::Read(numbers, next)
+}
+
+// The numbers of the leader certificate at a place.
+pub fn numbers_at(s: &[u8], at: usize) -> Certificate
+    requires { ⌜ (at + inner.fieldsSize ≤ length (now s)) × (length (now s) ≤ submissionMost) ⌝ }
+    ensures { λ r. ⌜ r ≡ inner.numbersAt (now (s .entry)) at ⌝ }
+{
+    Certificate {
+        candidate: words::u16_at(s, at),
+        term: words::u32_at(s, at + TERM_AT),
+        last_term: words::u32_at(s, at + LAST_TERM_AT),
+        last_index: words::u32_at(s, at + LAST_INDEX_AT),
+        signers: words::u16_at(s, at + BALLOT_SIZE),
+    }
+}
+
+// The place after so many leader certificates from a place on.
+pub fn place_after(s: &[u8], count: usize, from: usize, end: usize, size: usize) -> Place
+    requires { ⌜ (from ≤ end) × (end ≤ length (now s)) × (length (now s) ≤ submissionMost) × (size ≤ inner.signatureMost) ⌝ }
+    ensures { λ r. ⌜ (r ≡ inner.placeAfter size (now (s .entry)) count from end)
+        × (inner.placeNumber r ≡ inner.endNumber (certificatesEnd 4 size (now (s .entry)) count from) end) ⌝ }
+{
+    let mut at = from;
+    let mut left = count;
+    while 0 < left {
+        let Reading::Read(_, next) = read(s, at, end, size) else {
+            return Place::Refused;
+        };
+        at = next;
+        left -= 1;
+    }
+    Place::At(at)
+}
+
+// The commit certificate at a place.
+pub fn read_commit(s: &[u8], at: usize, end: usize, size: usize) -> CommitReading
+    requires { ⌜ (at ≤ end) × (end ≤ length (now s)) × (length (now s) ≤ submissionMost) × (size ≤ inner.signatureMost) ⌝ }
+    ensures { λ r. ⌜ (r ≡ inner.commitReading size (now (s .entry)) at end) × (inner.commitReadingNumber r ≡ inner.endNumber (commitEnd size (now (s .entry)) at) end) ⌝ }
+{
+    if end < at + COMMIT_FIELDS_SIZE {
+        return CommitReading::Refused;
+    }
+    let index = words::u32_at(s, at);
+    let signers = words::u16_at(s, at + COMMIT_SIGNERS_AT);
+    let next = at + COMMIT_FIELDS_SIZE + signatures_size(signers, size);
+    if end < next {
+        return CommitReading::Refused;
+    }
+    let numbers = Commit {
+        index: index,
+        signers: signers,
+    };
+    CommitReading::Read(numbers, next)
+}
+
+// The commit certificate of a laid-out submission. Check 9 has read it before, and handed a refusal up (`layout::commit_stands`): here the proof shows that
+// none comes.
+pub fn commit_part(s: &[u8], size: usize) -> CommitPart
+    requires { ⌜ Bounds size (now s) × (laidOut 4 size (now s) ≡ true) ⌝ }
+    ensures { λ r. ⌜ r ≡ commitPart size (now (s .entry)) ⌝ }
+{
+    let back = submission_trailer::distance(s, 4);
+    if back == 0 {
+        return CommitPart::Absent;
+    }
+    let end = submission_trailer::trailer_at(s);
+    let at = end - back;
+    let CommitReading::Read(numbers, _) = read_commit(s, at, end, size) else {
+        return CommitPart::Absent;
+    };
+    CommitPart::Found(numbers, at)
+}
