@@ -1,5 +1,5 @@
-// The program `audit` (document 01, "The report"): reads the files `roster`, `first` and `second` of the current folder, and prints the lines of
-// the report.
+// The program `audit` (document 01, "The report"): reads the files `roster`, `first` and `second` of the
+// current folder, and prints the lines of the report.
 use libc::STDOUT_FILENO;
 ghost use mathlib.Core.Path.{_≡_};
 ghost use lib.ListN.{take, replicate};
@@ -10,7 +10,9 @@ ghost use Rattle.text_report.specs.Lines.{lines};
 // Puts the lines of the report of three inputs at the start of `out`, and gives their length.
 fn report_lines(roster: &[u8], first: &[u8], second: &[u8], out: &mut [u8; 512]) -> usize
     ensures within { λ r. ⌜ Counts r (now (out .exit)) ⌝ }
-    ensures text { λ r. ⌜ take r (now (out .exit)) ≡ lines (reportAfter (now (roster .entry)) (now (first .entry)) (now (second .entry)) (replicate 53 0)) ⌝ }
+    ensures text { λ r. ⌜ take r (now (out .exit))
+        ≡ lines (reportAfter (now (roster .entry)) (now (first .entry)) (now (second .entry))
+        (replicate 53 0)) ⌝ }
 {
     let mut report = [0u8; 53];
     audit_pair::audit(roster, first, second, &mut report);

@@ -1,4 +1,5 @@
--- The outcome of the checks, and for each case document 01's number and values ("What stops an audit" and "The report").
+-- The outcome of the checks, and for each case document 01's number and values ("What stops an audit" and
+-- "The report").
 use mathlib.Core.Bool.{cond}
 use mathlib.Core.List.{List}
 use Prim.Native.Nat.{ℕ}
@@ -15,7 +16,8 @@ unfoldable pub outcome : List ℕ → List ℕ → List ℕ → Outcome
 outcome roster first second =
     let a = validate roster first in
     let b = validate roster second in
-    cond (eqb (rosterNumber roster) 0) (cond (eqb a 0) (cond (eqb b 0) Accepted (Refused b 2)) (Refused a 1)) (Refused (rosterNumber roster) 0)
+    cond (eqb (rosterNumber roster) 0) (cond (eqb a 0) (cond (eqb b 0) Accepted (Refused b 2)) (Refused a 1))
+    (Refused (rosterNumber roster) 0)
 
 -- the answer of each case, where the accepted submissions show some findings
 unfoldable pub answerOf : Outcome → Findings → Answer

@@ -1,4 +1,5 @@
-// The audit (document 01, "What stops an audit" and "The report"): the refusal that comes first, or what two accepted submissions show.
+// The audit (document 01, "What stops an audit" and "The report"): the refusal that comes first, or what two
+// accepted submissions show.
 ghost use mathlib.Core.Path.{_≡_};
 ghost use mathlib.Core.List.{_++_};
 ghost use Prim.Native.Nat.{_≤_};
@@ -9,10 +10,8 @@ ghost use Rattle.forensics.specs.Findings.{findings};
 ghost use Rattle.report.specs.Report.{reportSize, reportBytes, auditNumber, reportAfter};
 ghost use Rattle.audit_pair.specs.Outcomes as inner;
 
-// The bytes of a report.
-const REPORT_SIZE: usize = 53;
-
-// Whether roster and submissions are accepted; if not, the number and where: 0 for the roster, 1 or 2 for the submission.
+// Whether roster and submissions are accepted; if not, the number and where: 0 for the roster, 1 or 2 for the
+// submission.
 pub enum Outcome {
     Accepted,
     Refused(u32, u32),
@@ -40,10 +39,15 @@ pub fn validate(roster: &[u8], first: &[u8], second: &[u8]) -> Outcome
 // Writes the report of the outcome to a buffer that is long enough, and gives the number.
 fn write(roster: &[u8], first: &[u8], second: &[u8], report: &mut [u8]) -> u32
     requires { ⌜ reportSize ≤ length (now report) ⌝ }
-    ensures number { λ r. ⌜ r ≡ inner.answerOf (inner.outcome (now (roster .entry)) (now (first .entry)) (now (second .entry)))
-        (findings (signatureSize (now (roster .entry))) (viewOf (now (roster .entry)) (now (first .entry))) (viewOf (now (roster .entry)) (now (second .entry)))) .number ⌝ }
-    ensures bytes { λ _. ⌜ now (report .exit) ≡ reportBytes (inner.answerOf (inner.outcome (now (roster .entry)) (now (first .entry)) (now (second .entry)))
-        (findings (signatureSize (now (roster .entry))) (viewOf (now (roster .entry)) (now (first .entry))) (viewOf (now (roster .entry)) (now (second .entry)))))
+    ensures number { λ r. ⌜ r
+        ≡ inner.answerOf (inner.outcome (now (roster .entry)) (now (first .entry)) (now (second .entry)))
+        (findings (signatureSize (now (roster .entry))) (viewOf (now (roster .entry)) (now (first .entry)))
+        (viewOf (now (roster .entry)) (now (second .entry)))) .number ⌝ }
+    ensures bytes { λ _. ⌜ now (report .exit)
+        ≡ reportBytes (inner.answerOf (inner.outcome (now (roster .entry)) (now (first .entry))
+        (now (second .entry)))
+        (findings (signatureSize (now (roster .entry))) (viewOf (now (roster .entry)) (now (first .entry)))
+        (viewOf (now (roster .entry)) (now (second .entry)))))
         ++ drop reportSize (now (report .entry)) ⌝ }
 {
     let Outcome::Refused(number, place) = validate(roster, first, second) else {
@@ -53,12 +57,17 @@ fn write(roster: &[u8], first: &[u8], second: &[u8], report: &mut [u8]) -> u32
     report_bytes::write_refused(report, number, place)
 }
 
-// The audit: 1 and nothing written where the report buffer is below 53 bytes, otherwise the number, with the report in the first 53 bytes.
+// The audit: 1 and nothing written where the report buffer is below 53 bytes, otherwise the number, with the
+// report in the first 53 bytes.
 pub fn audit(roster: &[u8], first: &[u8], second: &[u8], report: &mut [u8]) -> u32
-    ensures number { λ r. ⌜ r ≡ auditNumber (now (roster .entry)) (now (first .entry)) (now (second .entry)) (now (report .entry)) ⌝ }
-    ensures bytes { λ _. ⌜ now (report .exit) ≡ reportAfter (now (roster .entry)) (now (first .entry)) (now (second .entry)) (now (report .entry)) ⌝ }
+    ensures number { λ r. ⌜ r
+        ≡ auditNumber (now (roster .entry)) (now (first .entry)) (now (second .entry))
+        (now (report .entry)) ⌝ }
+    ensures bytes { λ _. ⌜ now (report .exit)
+        ≡ reportAfter (now (roster .entry)) (now (first .entry)) (now (second .entry))
+        (now (report .entry)) ⌝ }
 {
-    if report.len() < REPORT_SIZE {
+    if report.len() < report::REPORT_SIZE {
         return 1;
     }
     write(roster, first, second, report)

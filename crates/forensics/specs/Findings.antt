@@ -1,4 +1,5 @@
--- What two submissions show (document 01, "The report"): the fork index, and for each replica the charge that its row has.
+-- What two submissions show (document 01, "The report"): the fork index, and for each replica the charge that
+-- its row has.
 use mathlib.Core.Bool.{Bool, cond}
 use mathlib.Core.List.{List, [], _∷_, flatMap}
 use mathlib.Core.Option.{Option, some, none}

@@ -1,4 +1,5 @@
--- What the four rules charge a replica with, from terms and receipts (document 01, "The report"), and the meaning of a row.
+-- What the four rules charge a replica with, from terms and receipts (document 01, "The report"), and the
+-- meaning of a row.
 use mathlib.Core.Bool.{cond}
 use mathlib.Core.List.{List, [], _∷_, _++_, map, flatMap}
 use mathlib.Core.Option.{Option, some, none}
@@ -32,7 +33,8 @@ receipts v = receiptsBy (v .commit) (v .log)
 module _ (k : ℕ) where
   -- the charges from a term of the first submission and one of the second
   unfoldable pub between : ℕ → Tenure → Tenure → List Charge
-  between difference x y = charge (twoCandidates k x y) 1 (x .term) ++ charge (twoLogs k difference x y) 2 (x .term)
+  between difference x y =
+      charge (twoCandidates k x y) 1 (x .term) ++ charge (twoLogs k difference x y) 2 (x .term)
 
   unfoldable pub amongTerms : ℕ → List Tenure → List Tenure → List Charge
   amongTerms difference xs ys = flatMap (λ x. flatMap (between difference x) ys) xs

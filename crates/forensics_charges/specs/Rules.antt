@@ -15,15 +15,16 @@ module _ (k : ℕ) where
   unfoldable pub twoCandidates : Tenure → Tenure → Bool
   twoCandidates x y =
       all (
-      signer (x .signers) k ∷ signer (y .signers) k ∷ eqb (x .term) (y .term) ∷ not (eqb (x .candidate) (y .candidate)) ∷ []
+      signer (x .signers) k ∷ signer (y .signers) k ∷ eqb (x .term) (y .term) ∷
+      not (eqb (x .candidate) (y .candidate)) ∷ []
       )
 
   -- rule 2: stamps in one term, and the logs differ first at an index (0 for none) that is not above either
   unfoldable pub twoLogs : ℕ → Tenure → Tenure → Bool
   twoLogs difference x y =
       all (
-      eqb (x .candidate) k ∷ eqb (y .candidate) k ∷ eqb (x .term) (y .term) ∷ ltb 0 difference ∷ leb difference (x .end) ∷
-      leb difference (y .end) ∷ []
+      eqb (x .candidate) k ∷ eqb (y .candidate) k ∷ eqb (x .term) (y .term) ∷
+      ltb 0 difference ∷ leb difference (x .end) ∷ leb difference (y .end) ∷ []
       )
 
   -- rules 3 and 4: a receipt, and a vote of a higher term for a staler log

@@ -1,4 +1,5 @@
-// What the four rules charge a replica with, from two terms or from a receipt and a term, as a row of the report (document 01, "The report").
+// What the four rules charge a replica with, from two terms or from a receipt and a term, as a row of the
+// report (document 01, "The report").
 ghost use mathlib.Core.Path.{_≡_};
 ghost use mathlib.Core.List.{[]};
 ghost use Prim.Native.Nat.{_<_};
@@ -9,8 +10,8 @@ ghost use Rattle.forensics_charges.specs.Charges as inner;
 
 pub mod rules;
 
-// A term of a submission as its rules compare it: the numbers of its leader certificate, and the index of its last record in this log, where the
-// stamp is.
+// A term of a submission as its rules compare it: the numbers of its leader certificate, and the index of its
+// last record in this log, where the stamp is.
 pub struct Tenure {
     pub candidate: u16,
     pub term: u32,
@@ -20,7 +21,8 @@ pub struct Tenure {
     pub end: u32,
 }
 
-// The receipts of a commit certificate: the term and the index of the record, and the replicas that gave them.
+// The receipts of a commit certificate: the term and the index of the record, and the replicas that gave
+// them.
 pub struct Receipt {
     pub term: u32,
     pub index: u32,
@@ -39,6 +41,9 @@ pub struct Row {
     pub term: u32,
 }
 
+// The replicas that have a row.
+pub const ROW_COUNT: usize = 9;
+
 // The fork index, and the rows of replicas 1 to 9.
 pub struct Findings {
     pub fork: u32,
@@ -46,14 +51,14 @@ pub struct Findings {
 }
 
 // The row of a replica that is not named.
-pub fn unnamed() -> Row
+pub fn unnamed_row() -> Row
     ensures { λ r. ⌜ inner.chargeOf r ≡ lowest [] ⌝ }
 {
     Row { rule: 0, term: 0 }
 }
 
 // The lower of two rows: the lower rule and, for that rule, the lower term.
-pub fn lower(x: Row, y: Row) -> Row
+pub fn lower_row(x: Row, y: Row) -> Row
     ensures { λ r. ⌜ inner.chargeOf r ≡ inner.least (inner.chargeOf x) (inner.chargeOf y) ⌝ }
 {
     if x.rule == 0 {
@@ -62,7 +67,7 @@ pub fn lower(x: Row, y: Row) -> Row
     if y.rule == 0 {
         return x;
     }
-    if rules::staler(y.rule as u32, y.term, x.rule as u32, x.term) {
+    if rules::end_staler(y.rule as u32, y.term, x.rule as u32, x.term) {
         return y;
     }
     x
@@ -76,7 +81,7 @@ fn charged(broken: bool, rule: u8, term: u32) -> Row
     if broken {
         return Row { rule, term };
     }
-    unnamed()
+    unnamed_row()
 }
 
 // The row of replica k from a term of the first submission and one of the second: rules 1 and 2.
@@ -86,7 +91,7 @@ pub fn between(k: usize, difference: usize, x: Tenure, y: Tenure) -> Row
 {
     let votes = charged(rules::two_candidates(k, x, y), 1, x.term);
     let stamps = charged(rules::two_logs(k, difference, x, y), 2, x.term);
-    lower(votes, stamps)
+    lower_row(votes, stamps)
 }
 
 // The row of replica k from a receipt of one submission and a term of the other: rule 3 or 4.
@@ -94,5 +99,5 @@ pub fn after_receipt(k: usize, rule: u8, given: Receipt, y: Tenure) -> Row
     requires { ⌜ (0 < k) × (0 < rule) ⌝ }
     ensures { λ r. ⌜ inner.chargeOf r ≡ lowest (charge (forgotten k given y) rule (y .term)) ⌝ }
 {
-    charged(rules::forgotten(k, given, y), rule, y.term)
+    charged(rules::receipt_forgotten(k, given, y), rule, y.term)
 }

@@ -11,7 +11,7 @@ use super::Receipt;
 use super::Tenure;
 
 // Whether (t, i) is staler than (u, j): term compared first, then index.
-pub fn staler(t: u32, i: u32, u: u32, j: u32) -> bool
+pub fn end_staler(t: u32, i: u32, u: u32, j: u32) -> bool
     ensures { λ r. ⌜ r ≡ ends.staler t i u j ⌝ }
 {
     if t == u {
@@ -82,7 +82,7 @@ pub fn two_logs(k: usize, difference: usize, x: Tenure, y: Tenure) -> bool
 }
 
 // Rules 3 and 4: whether replica k gave a receipt and voted in a higher term for a staler log.
-pub fn forgotten(k: usize, given: Receipt, y: Tenure) -> bool
+pub fn receipt_forgotten(k: usize, given: Receipt, y: Tenure) -> bool
     requires { ⌜ 0 < k ⌝ }
     ensures { λ r. ⌜ r ≡ inner.forgotten k given y ⌝ }
 {
@@ -92,5 +92,5 @@ pub fn forgotten(k: usize, given: Receipt, y: Tenure) -> bool
     if y.term <= given.term {
         return false;
     }
-    staler(y.last_term, y.last_index, given.term, given.index)
+    end_staler(y.last_term, y.last_index, given.term, given.index)
 }

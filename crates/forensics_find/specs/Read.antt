@@ -1,4 +1,5 @@
--- The fork index and the rows of two submissions, from their terms and receipts as they are read (document 01, "The report").
+-- The fork index and the rows of two submissions, from their terms and receipts as they are read (document
+-- 01, "The report").
 use mathlib.Core.List.{List}
 use mathlib.Core.Option.{Option}
 use Prim.Native.Nat.{ℕ}
@@ -14,5 +15,6 @@ read S a b =
     let v = view 4 S a in
     let w = view 4 S b in
     let difference = forensics.differAt 1 (v .log) (w .log) in
-    let row : ℕ → Option Charge = λ k. forensics.lowest (ruledBy k difference (tenuresOf S a) (tenuresOf S b) (receipts v) (receipts w)) in
+    let row : ℕ → Option Charge =
+    λ k. forensics.lowest (ruledBy k difference (tenuresOf S a) (tenuresOf S b) (receipts v) (receipts w)) in
     record { fork = forkOf difference (receipts v) (receipts w); rows = rowsBy row forensics.rowCount 1 }

@@ -1,5 +1,6 @@
--- The terms of a submission as they are read, one leader certificate after the other: the last record of a term stands in the next leader
--- certificate, as the last record before the next term; that of the last term is the log's.
+-- The terms of a submission as they are read, one leader certificate after the other: the last record of a
+-- term stands in the next leader certificate, as the last record before the next term; that of the last term
+-- is the log's.
 use mathlib.Core.List.{List, [], _∷_}
 use Prim.Native.Nat.{ℕ, zero, suc, _+_}
 use Rattle.submission.specs.Trailer.{recordCount, leaderCount}
@@ -30,7 +31,9 @@ module _ (S : ℕ) (s : List ℕ) where
   -- those of so many certificates from a place on
   unfoldable pub tenuresAt : ℕ → ℕ → List Tenure
   tenuresAt zero at = []
-  tenuresAt (suc later) at = let next = certificateEnd 4 S s at in tenureAt s later at next ∷ tenuresAt later next
+  tenuresAt (suc later) at =
+      let next = certificateEnd 4 S s at in
+      tenureAt s later at next ∷ tenuresAt later next
 
   -- all of them
   unfoldable pub tenuresOf : List Tenure

@@ -36,8 +36,10 @@ fn fork(difference: usize, first: Receipts, second: Receipts) -> u32
 
 // The fork index and the rows of two laid-out submissions.
 fn found(a: &[u8], b: &[u8], size: usize) -> Findings
-    requires { ⌜ Bounds size (now a) × (laidOut 4 size (now a) ≡ true) × (within (view 4 size (now a) .commit) (length (view 4 size (now a) .log)) ≡ true)
-        × Bounds size (now b) × (laidOut 4 size (now b) ≡ true) × (within (view 4 size (now b) .commit) (length (view 4 size (now b) .log)) ≡ true) ⌝ }
+    requires { ⌜ Bounds size (now a) × (laidOut 4 size (now a) ≡ true)
+        × (within (view 4 size (now a) .commit) (length (view 4 size (now a) .log)) ≡ true)
+        × Bounds size (now b) × (laidOut 4 size (now b) ≡ true)
+        × (within (view 4 size (now b) .commit) (length (view 4 size (now b) .log)) ≡ true) ⌝ }
     ensures { λ r. ⌜ inner.findingsOf r ≡ read size (now (a .entry)) (now (b .entry)) ⌝ }
 {
     let difference = log_difference::difference(
@@ -56,8 +58,11 @@ fn found(a: &[u8], b: &[u8], size: usize) -> Findings
 
 // The fork index and the rows of two submissions that a roster accepts.
 pub fn find(roster: &[u8], a: &[u8], b: &[u8]) -> Findings
-    requires { ⌜ (rosterNumber (now roster) ≡ 0) × (validate (now roster) (now a) ≡ 0) × (validate (now roster) (now b) ≡ 0) ⌝ }
-    ensures { λ r. ⌜ inner.findingsOf r ≡ forensics.findings (signatureSize (now (roster .entry))) (viewOf (now (roster .entry)) (now (a .entry))) (viewOf (now (roster .entry)) (now (b .entry))) ⌝ }
+    requires { ⌜ (rosterNumber (now roster) ≡ 0) × (validate (now roster) (now a) ≡ 0)
+        × (validate (now roster) (now b) ≡ 0) ⌝ }
+    ensures { λ r. ⌜ inner.findingsOf r
+        ≡ forensics.findings (signatureSize (now (roster .entry))) (viewOf (now (roster .entry))
+        (now (a .entry))) (viewOf (now (roster .entry)) (now (b .entry))) ⌝ }
 {
     found(a, b, roster::signature_size(roster))
 }

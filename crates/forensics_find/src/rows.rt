@@ -1,4 +1,5 @@
-// A replica's row: the lowest of what the four rules charge it with, from two submissions (document 01, "The report").
+// A replica's row: the lowest of what the four rules charge it with, from two submissions (document 01, "The
+// report").
 ghost use mathlib.Core.Path.{_≡_};
 ghost use mathlib.Core.Bool.{true};
 ghost use mathlib.Core.List.{map, flatMap};
@@ -15,21 +16,19 @@ use forensics_charges::Receipts;
 use forensics_charges::Row;
 use forensics_charges::Tenure;
 
-// The replicas that have a row.
-const ROWS: usize = 9;
-
 // The row of replica k from a term of the first submission and those of the second: rules 1 and 2.
 fn against(k: usize, difference: usize, x: Tenure, s: &[u8], size: usize) -> Row
     requires { ⌜ (0 < k) × Bounds size (now s) × (laidOut 4 size (now s) ≡ true) ⌝ }
-    ensures { λ r. ⌜ inner.chargeOf r ≡ lowest (flatMap (inner.between k difference x) (tenuresOf size (now (s .entry)))) ⌝ }
+    ensures { λ r. ⌜ inner.chargeOf r
+        ≡ lowest (flatMap (inner.between k difference x) (tenuresOf size (now (s .entry)))) ⌝ }
 {
-    let mut best = forensics_charges::unnamed();
+    let mut best = forensics_charges::unnamed_row();
     let mut left = submission_trailer::leader_count(s);
     let mut at = submission_parts::layout::leaders_from(s);
     while 0 < left {
         let next = submission_parts::certificate_end(s, at, size);
         let y = tenures::tenure_at(s, left - 1, at, next);
-        best = forensics_charges::lower(best, forensics_charges::between(k, difference, x, y));
+        best = forensics_charges::lower_row(best, forensics_charges::between(k, difference, x, y));
         at = next;
         left -= 1;
     }
@@ -38,35 +37,43 @@ fn against(k: usize, difference: usize, x: Tenure, s: &[u8], size: usize) -> Row
 
 // The row of replica k from the terms of two submissions: rules 1 and 2.
 fn among_terms(k: usize, difference: usize, a: &[u8], b: &[u8], size: usize) -> Row
-    requires { ⌜ (0 < k) × Bounds size (now a) × (laidOut 4 size (now a) ≡ true) × Bounds size (now b) × (laidOut 4 size (now b) ≡ true) ⌝ }
-    ensures { λ r. ⌜ inner.chargeOf r ≡ lowest (inner.amongTerms k difference (tenuresOf size (now (a .entry))) (tenuresOf size (now (b .entry)))) ⌝ }
+    requires { ⌜ (0 < k) × Bounds size (now a) × (laidOut 4 size (now a) ≡ true) × Bounds size (now b)
+        × (laidOut 4 size (now b) ≡ true) ⌝ }
+    ensures { λ r. ⌜ inner.chargeOf r
+        ≡ lowest (inner.amongTerms k difference (tenuresOf size (now (a .entry))) (tenuresOf size
+        (now (b .entry)))) ⌝ }
 {
-    let mut best = forensics_charges::unnamed();
+    let mut best = forensics_charges::unnamed_row();
     let mut left = submission_trailer::leader_count(a);
     let mut at = submission_parts::layout::leaders_from(a);
     while 0 < left {
         let next = submission_parts::certificate_end(a, at, size);
         let x = tenures::tenure_at(a, left - 1, at, next);
-        best = forensics_charges::lower(best, against(k, difference, x, b, size));
+        best = forensics_charges::lower_row(best, against(k, difference, x, b, size));
         at = next;
         left -= 1;
     }
     best
 }
 
-// The row of replica k from a receipt of the one and the terms of the other: rule 3 or 4. The loop is that of `against`: one over both kinds of charge would need
-// an enum of them, with its own contract, and a match in each turn.
+// The row of replica k from a receipt of the one and the terms of the other: rule 3 or 4. The loop is that of
+// `against`: one over both kinds of charge would need an enum of them, with its own contract, and a match in
+// each turn.
 fn after_given(k: usize, rule: u8, given: Receipt, s: &[u8], size: usize) -> Row
     requires { ⌜ (0 < k) × (0 < rule) × Bounds size (now s) × (laidOut 4 size (now s) ≡ true) ⌝ }
-    ensures { λ r. ⌜ inner.chargeOf r ≡ lowest (inner.afterReceipts k rule (Given given) (tenuresOf size (now (s .entry)))) ⌝ }
+    ensures { λ r. ⌜ inner.chargeOf r
+        ≡ lowest (inner.afterReceipts k rule (Given given) (tenuresOf size (now (s .entry)))) ⌝ }
 {
-    let mut best = forensics_charges::unnamed();
+    let mut best = forensics_charges::unnamed_row();
     let mut left = submission_trailer::leader_count(s);
     let mut at = submission_parts::layout::leaders_from(s);
     while 0 < left {
         let next = submission_parts::certificate_end(s, at, size);
         let y = tenures::tenure_at(s, left - 1, at, next);
-        best = forensics_charges::lower(best, forensics_charges::after_receipt(k, rule, given, y));
+        best = forensics_charges::lower_row(
+            best,
+            forensics_charges::after_receipt(k, rule, given, y),
+        );
         at = next;
         left -= 1;
     }
@@ -76,11 +83,12 @@ fn after_given(k: usize, rule: u8, given: Receipt, s: &[u8], size: usize) -> Row
 // The row of replica k from the receipts of the one, where it has any, and the terms of the other.
 fn after_receipts(k: usize, rule: u8, receipts: Receipts, s: &[u8], size: usize) -> Row
     requires { ⌜ (0 < k) × (0 < rule) × Bounds size (now s) × (laidOut 4 size (now s) ≡ true) ⌝ }
-    ensures { λ r. ⌜ inner.chargeOf r ≡ lowest (inner.afterReceipts k rule receipts (tenuresOf size (now (s .entry)))) ⌝ }
+    ensures { λ r. ⌜ inner.chargeOf r
+        ≡ lowest (inner.afterReceipts k rule receipts (tenuresOf size (now (s .entry)))) ⌝ }
 {
     match receipts {
         Receipts::Given(given) => after_given(k, rule, given, s, size),
-        Receipts::Absent => forensics_charges::unnamed(),
+        Receipts::Absent => forensics_charges::unnamed_row(),
     }
 }
 
@@ -94,13 +102,16 @@ fn row(
     second: Receipts,
     size: usize,
 ) -> Row
-    requires { ⌜ (0 < k) × Bounds size (now a) × (laidOut 4 size (now a) ≡ true) × Bounds size (now b) × (laidOut 4 size (now b) ≡ true) ⌝ }
-    ensures { λ r. ⌜ inner.chargeOf r ≡ lowest (inner.ruledBy k difference (tenuresOf size (now (a .entry))) (tenuresOf size (now (b .entry))) first second) ⌝ }
+    requires { ⌜ (0 < k) × Bounds size (now a) × (laidOut 4 size (now a) ≡ true) × Bounds size (now b)
+        × (laidOut 4 size (now b) ≡ true) ⌝ }
+    ensures { λ r. ⌜ inner.chargeOf r
+        ≡ lowest (inner.ruledBy k difference (tenuresOf size (now (a .entry))) (tenuresOf size
+        (now (b .entry))) first second) ⌝ }
 {
     let terms = among_terms(k, difference, a, b, size);
     let third = after_receipts(k, 3, first, b, size);
     let fourth = after_receipts(k, 4, second, a, size);
-    forensics_charges::lower(forensics_charges::lower(terms, third), fourth)
+    forensics_charges::lower_row(forensics_charges::lower_row(terms, third), fourth)
 }
 
 // The rows of replicas 1 to 9.
@@ -112,12 +123,15 @@ pub fn rows(
     second: Receipts,
     size: usize,
 ) -> [Row; 9]
-    requires { ⌜ Bounds size (now a) × (laidOut 4 size (now a) ≡ true) × Bounds size (now b) × (laidOut 4 size (now b) ≡ true) ⌝ }
-    ensures { λ r. ⌜ map inner.chargeOf r ≡ inner.rowsBy (λ k. lowest (inner.ruledBy k difference (tenuresOf size (now (a .entry))) (tenuresOf size (now (b .entry))) first second)) 9 1 ⌝ }
+    requires { ⌜ Bounds size (now a) × (laidOut 4 size (now a) ≡ true) × Bounds size (now b)
+        × (laidOut 4 size (now b) ≡ true) ⌝ }
+    ensures { λ r. ⌜ map inner.chargeOf r
+        ≡ inner.rowsBy (λ k. lowest (inner.ruledBy k difference (tenuresOf size (now (a .entry)))
+        (tenuresOf size (now (b .entry))) first second)) 9 1 ⌝ }
 {
     let mut out = [Row { rule: 0, term: 0 }; 9];
     let mut i = 0;
-    while i < ROWS {
+    while i < forensics_charges::ROW_COUNT {
         out[i] = row(i + 1, difference, a, b, first, second, size);
         i += 1;
     }

@@ -1,4 +1,5 @@
-// The terms of a submission, read from its leader certificates, and the receipts of its commit certificate (document 01, "The report").
+// The terms of a submission, read from its leader certificates, and the receipts of its commit certificate
+// (document 01, "The report").
 ghost use mathlib.Core.Path.{_≡_};
 ghost use mathlib.Core.Bool.{true};
 ghost use Prim.Native.Nat.{_+_, _≤_, _<_};
@@ -6,7 +7,7 @@ ghost use lib.ListN.{length};
 ghost use Rattle.submission.specs.Trailer.{trailerSize};
 ghost use Rattle.submission.specs.Reading.{view, laidOut};
 ghost use Rattle.submission.specs.Validate.{submissionMost, within};
-ghost use Rattle.submission_parts.specs.Reader.{fieldsSize};
+ghost use Rattle.submission_parts.specs.Reader.{fieldsSize, lastPointerPlace};
 ghost use Rattle.submission_parts.specs.Parts.{Bounds};
 ghost use Rattle.forensics_charges.specs.Charges.{receipts};
 ghost use Rattle.forensics_find.specs.Tenures as inner;
@@ -18,7 +19,7 @@ use submission_parts::CommitPart;
 
 // The last record of the term before a place, with so many leader certificates from there on.
 fn end_at(s: &[u8], later: usize, next: usize) -> u32
-    requires { ⌜ (trailerSize ≤ length (now s)) × (0 < later → next + 14 ≤ length (now s)) ⌝ }
+    requires { ⌜ (trailerSize ≤ length (now s)) × (0 < later → next + lastPointerPlace ≤ length (now s)) ⌝ }
     ensures { λ r. ⌜ r ≡ inner.endAt (now (s .entry)) later next ⌝ }
 {
     if later == 0 {
@@ -29,8 +30,9 @@ fn end_at(s: &[u8], later: usize, next: usize) -> u32
 
 // The tenure of the leader certificate at a place that ends at another, with so many after it.
 pub fn tenure_at(s: &[u8], later: usize, at: usize, next: usize) -> Tenure
-    requires { ⌜ (trailerSize ≤ length (now s)) × (length (now s) ≤ submissionMost) × (at + fieldsSize ≤ length (now s))
-        × (0 < later → next + 14 ≤ length (now s)) ⌝ }
+    requires { ⌜ (trailerSize ≤ length (now s)) × (length (now s) ≤ submissionMost)
+        × (at + fieldsSize ≤ length (now s))
+        × (0 < later → next + lastPointerPlace ≤ length (now s)) ⌝ }
     ensures { λ r. ⌜ r ≡ inner.tenureAt (now (s .entry)) later at next ⌝ }
 {
     let c = submission_parts::numbers_at(s, at);
@@ -45,7 +47,8 @@ pub fn tenure_at(s: &[u8], later: usize, at: usize, next: usize) -> Tenure
     }
 }
 
-// The receipts of a submission: the term of the record that its commit certificate names, the index, and the signers.
+// The receipts of a submission: the term of the record that its commit certificate names, the index, and the
+// signers.
 pub fn receipts_of(s: &[u8], size: usize) -> Receipts
     requires { ⌜ Bounds size (now s) × (laidOut 4 size (now s) ≡ true)
         × (within (view 4 size (now s) .commit) (length (view 4 size (now s) .log)) ≡ true) ⌝ }

@@ -16,17 +16,18 @@ pub extern "C" fn hirelog_sha256(message: &[u8], digest: &mut [u8; 32]) -> u32
     sha256_service::digest(message, digest)
 }
 
-// The LMS signature check (document 01, "Digest and signature"; RFC 8554): 0 for good, 15 for bad, and 16, before
-// anything else, for a message of more than 16,777,216 bytes.
+// The LMS signature check (document 01, "Digest and signature"; RFC 8554): 0 for good, 15 for bad, and 16,
+// before anything else, for a message of more than 16,777,216 bytes.
 #[no_mangle]
 pub extern "C" fn hirelog_lms_check(key: &[u8], message: &[u8], signature: &[u8]) -> u32
-    ensures { λ r. ⌜ r ≡ answerNumber (answer (now (key .entry)) (now (message .entry)) (now (signature .entry))) ⌝ }
+    ensures { λ r. ⌜ r ≡ answerNumber (answer (now (key .entry)) (now (message .entry))
+        (now (signature .entry))) ⌝ }
 {
     lm_answer::number_of(lms::check(key, message, signature))
 }
 
-// The audit (document 01): the number, and the report in the buffer's first 53 bytes; with number 1, for a buffer below 53 bytes, nothing
-// is written. Demand 3 stands on the number and on the report's own bytes.
+// The audit (document 01): the number, and the report in the buffer's first 53 bytes; with number 1, for a
+// buffer below 53 bytes, nothing is written. Demand 3 stands on the number and on the report's own bytes.
 #[no_mangle]
 pub extern "C" fn hirelog_audit(
     roster: &[u8],
@@ -34,10 +35,16 @@ pub extern "C" fn hirelog_audit(
     second: &[u8],
     report: &mut [u8],
 ) -> u32
-    ensures number { λ r. ⌜ r ≡ auditNumber (now (roster .entry)) (now (first .entry)) (now (second .entry)) (now (report .entry)) ⌝ }
-    ensures bytes { λ _. ⌜ now (report .exit) ≡ reportAfter (now (roster .entry)) (now (first .entry)) (now (second .entry)) (now (report .entry)) ⌝ }
-    ensures naming { λ r. ⌜ Naming (now (roster .entry)) (now (first .entry)) (now (second .entry)) r (now (report .exit)) ⌝ }
-    ensures fairness { λ r. ⌜ Fairness (now (roster .entry)) (now (first .entry)) (now (second .entry)) r (now (report .exit)) ⌝ }
+    ensures number { λ r. ⌜ r
+        ≡ auditNumber (now (roster .entry)) (now (first .entry)) (now (second .entry))
+        (now (report .entry)) ⌝ }
+    ensures bytes { λ _. ⌜ now (report .exit)
+        ≡ reportAfter (now (roster .entry)) (now (first .entry)) (now (second .entry))
+        (now (report .entry)) ⌝ }
+    ensures naming { λ r. ⌜ Naming (now (roster .entry)) (now (first .entry)) (now (second .entry)) r
+        (now (report .exit)) ⌝ }
+    ensures fairness { λ r. ⌜ Fairness (now (roster .entry)) (now (first .entry)) (now (second .entry)) r
+        (now (report .exit)) ⌝ }
 {
     audit_pair::audit(roster, first, second, report)
 }

@@ -10,7 +10,8 @@ use submission::RECORD_SIZE;
 // Whether the bytes of two records at a place are the same.
 fn same_record(a: &[u8], b: &[u8], at: usize) -> bool
     requires { ⌜ (at + recordSize 4 ≤ length (now a)) × (at + recordSize 4 ≤ length (now b)) ⌝ }
-    ensures { λ r. ⌜ r ≡ same (take (recordSize 4) (drop at (now (a .entry)))) (take (recordSize 4) (drop at (now (b .entry)))) ⌝ }
+    ensures { λ r. ⌜ r ≡ same (take (recordSize 4) (drop at (now (a .entry)))) (take (recordSize 4)
+        (drop at (now (b .entry)))) ⌝ }
 {
     let end = at + RECORD_SIZE;
     check::same(&a[at..end], &b[at..end])
@@ -19,7 +20,8 @@ fn same_record(a: &[u8], b: &[u8], at: usize) -> bool
 // The lowest index whose records differ in two logs of so many records; 0 if none does.
 pub fn difference(a: &[u8], b: &[u8], first: usize, second: usize) -> usize
     requires { ⌜ (recordSize 4 * first ≤ length (now a)) × (recordSize 4 * second ≤ length (now b)) ⌝ }
-    ensures { λ r. ⌜ r ≡ differAt 1 (recordsOf 4 first (now (a .entry))) (recordsOf 4 second (now (b .entry))) ⌝ }
+    ensures { λ r. ⌜ r ≡ differAt 1 (recordsOf 4 first (now (a .entry))) (recordsOf 4 second
+        (now (b .entry))) ⌝ }
 {
     let mut i = 0;
     while i < first {

@@ -1,4 +1,5 @@
--- What follows the first i of a submission's records, which a walk over the log has yet to see: the records, and their terms.
+-- What follows the first i of a submission's records, which a walk over the log has yet to see: the records,
+-- and their terms.
 use mathlib.Core.List.{List}
 use Prim.Native.Nat.{ℕ, _-_, _*_}
 use lib.ListN.{drop}

@@ -1,4 +1,5 @@
-// The terms of a log: where each ends, their order and their number (document 01, "What stops an audit", 11 and 12), for version 1: terms of 4 bytes.
+// The terms of a log: where each ends, their order and their number (document 01, "What stops an audit", 11
+// and 12), for version 1: terms of 4 bytes.
 ghost use mathlib.Core.Path.{_≡_};
 ghost use mathlib.Core.List.{_∷_};
 ghost use Prim.Native.Nat.{_*_, _≤_, _<_};
@@ -31,7 +32,7 @@ pub fn last_term(s: &[u8], i: usize) -> u32
 }
 
 // 11: whether no term is 0 or below the one before.
-pub fn ordered(s: &[u8], records: usize) -> bool
+pub fn terms_in_order(s: &[u8], records: usize) -> bool
     requires { ⌜ recordSize 4 * records ≤ length (now s) ⌝ }
     ensures { λ r. ⌜ r ≡ rising 1 (recordsOf 4 records (now (s .entry))) ⌝ }
 {
@@ -51,7 +52,10 @@ pub fn ordered(s: &[u8], records: usize) -> bool
 // The last index of the term whose first record follows record i.
 pub fn run_end(s: &[u8], records: usize, i: usize) -> usize
     requires { ⌜ (i < records) × (recordSize 4 * records ≤ length (now s)) ⌝ }
-    ensures { λ r. ⌜ (i < r) × (r ≤ records) × (runsLeft 4 records i (now (s .entry)) ≡ run (recordsOf 4 i (now (s .entry))) (recordsOf 4 r (now (s .entry))) ∷ runsLeft 4 records r (now (s .entry))) ⌝ }
+    ensures { λ r. ⌜ (i < r) × (r ≤ records)
+        × (runsLeft 4 records i (now (s .entry))
+        ≡ run (recordsOf 4 i (now (s .entry))) (recordsOf 4 r (now (s .entry)))
+        ∷ runsLeft 4 records r (now (s .entry))) ⌝ }
 {
     let term = words::u32_at(s, RECORD_SIZE * i);
     let mut end = i + 1;

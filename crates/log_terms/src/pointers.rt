@@ -1,4 +1,5 @@
-// The terms of a log one after the other, with the running pointer (document 01, "Chain and statements"), for version 1: terms of 4 bytes.
+// The terms of a log one after the other, with the running pointer (document 01, "Chain and statements"), for
+// version 1: terms of 4 bytes.
 ghost use mathlib.Core.Path.{_≡_};
 ghost use mathlib.Core.List.{[], _∷_};
 ghost use Prim.Native.Nat.{_+_, _*_, _≤_, _<_};
@@ -31,7 +32,8 @@ pub fn pointer_zero() -> State
 
 // The pointer of record i + 1, from record i's.
 fn step(s: &[u8], i: usize, before: State) -> State
-    requires { ⌜ (i < recordMost) × (recordSize 4 * (i + 1) ≤ length (now s)) × (bytesOf before ≡ pointer (version1 []) (recordsOf 4 i (now s))) ⌝ }
+    requires { ⌜ (i < recordMost) × (recordSize 4 * (i + 1) ≤ length (now s))
+        × (bytesOf before ≡ pointer (version1 []) (recordsOf 4 i (now s))) ⌝ }
     ensures { λ r. ⌜ bytesOf r ≡ pointer (version1 []) (recordsOf 4 (i + 1) (now (s .entry))) ⌝ }
 {
     let start = RECORD_SIZE * i;
@@ -41,7 +43,8 @@ fn step(s: &[u8], i: usize, before: State) -> State
 
 // The pointer of record `end`, from record i's: one hash a record.
 pub fn pointer_after(s: &[u8], i: usize, end: usize, before: State) -> State
-    requires { ⌜ (i ≤ end) × (end ≤ recordMost) × (recordSize 4 * end ≤ length (now s)) × (bytesOf before ≡ pointer (version1 []) (recordsOf 4 i (now s))) ⌝ }
+    requires { ⌜ (i ≤ end) × (end ≤ recordMost) × (recordSize 4 * end ≤ length (now s))
+        × (bytesOf before ≡ pointer (version1 []) (recordsOf 4 i (now s))) ⌝ }
     ensures { λ r. ⌜ bytesOf r ≡ pointer (version1 []) (recordsOf 4 end (now (s .entry))) ⌝ }
 {
     let mut p = before;
@@ -55,8 +58,13 @@ pub fn pointer_after(s: &[u8], i: usize, end: usize, before: State) -> State
 
 // The end of the term that follows record i, with its pointer.
 pub fn next_run(s: &[u8], records: usize, i: usize, before: State) -> Walked
-    requires { ⌜ (i < records) × (records ≤ recordMost) × (recordSize 4 * records ≤ length (now s)) × (bytesOf before ≡ pointer (version1 []) (recordsOf 4 i (now s))) ⌝ }
-    ensures { λ r. ⌜ (i < r .end) × (r .end ≤ records) × (bytesOf (r .pointer) ≡ pointer (version1 []) (recordsOf 4 (r .end) (now (s .entry)))) × (runsLeft 4 records i (now (s .entry)) ≡ run (recordsOf 4 i (now (s .entry))) (recordsOf 4 (r .end) (now (s .entry))) ∷ runsLeft 4 records (r .end) (now (s .entry))) ⌝ }
+    requires { ⌜ (i < records) × (records ≤ recordMost) × (recordSize 4 * records ≤ length (now s))
+        × (bytesOf before ≡ pointer (version1 []) (recordsOf 4 i (now s))) ⌝ }
+    ensures { λ r. ⌜ (i < r .end) × (r .end ≤ records)
+        × (bytesOf (r .pointer) ≡ pointer (version1 []) (recordsOf 4 (r .end) (now (s .entry))))
+        × (runsLeft 4 records i (now (s .entry))
+        ≡ run (recordsOf 4 i (now (s .entry))) (recordsOf 4 (r .end) (now (s .entry)))
+        ∷ runsLeft 4 records (r .end) (now (s .entry))) ⌝ }
 {
     let end = super::run_end(s, records, i);
     let pointer = pointer_after(s, i, end, before);

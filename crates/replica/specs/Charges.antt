@@ -1,4 +1,5 @@
--- The four rules (document 01, "The report"): what one claim from the first and one from the second submission break.
+-- The four rules (document 01, "The report"): what one claim from the first and one from the second
+-- submission break.
 use mathlib.Core.Bool.{Bool, true, false, not, cond}
 use mathlib.Core.Path.{_≡_}
 use mathlib.Core.List.{List, [], _∷_, List·Memᴰ}
@@ -54,8 +55,8 @@ clash (received t l) (received u m) = []
 
 -- ---- the claim
 
--- a replica that keeps the board rules from the first state on signs no two claims that break a rule, whichever submission has
--- the one and which the other: one claim over the whole list of acts
+-- a replica that keeps the board rules from the first state on signs no two claims that break a rule,
+-- whichever submission has the one and which the other: one claim over the whole list of acts
 unfoldable pub NeverCharged : Form → ℕ → Type 0
 NeverCharged form n =
     (acts : List Act) → keeps form n first acts ≡ true

@@ -1,5 +1,5 @@
--- The board rules (document 01, "Board rules"): state, acts, what each act may do, leaves behind and signs. A replica is
--- document 01's board.
+-- The board rules (document 01, "Board rules"): state, acts, what each act may do, leaves behind and signs. A
+-- replica is document 01's board.
 use mathlib.Core.Bool.{Bool, true, false, not, cond}
 use mathlib.Core.List.{List, [], _∷_, _++_}
 use mathlib.Core.Option.{Option, some, none}
@@ -30,9 +30,12 @@ pub data Act : Type 0 where
   receipt : ℕ → Act
   decline restart : Act
 
--- ---- fields that fit: no act brings into the state, or signs, a term or an index that does not fit its field
+-- ---- fields that fit
 
--- the two tests of a length 32 are the sizes of a payload digest and of a pointer, and no rule of the sentence above
+-- no act brings into the state, or signs, a term or an index that does not fit its field
+
+-- the two tests of a length 32 are the sizes of a payload digest and of a pointer, and no rule of the
+-- sentence above
 
 unfoldable pub fitsTerm : Form → ℕ → Bool
 fitsTerm form t = ltb t (256 ^ form .termBytes)
@@ -42,7 +45,8 @@ fitsIndex i = ltb i (256 ^ 4)
 
 unfoldable pub fitsRecords : Form → List Record → Bool
 fitsRecords form [] = true
-fitsRecords form (r ∷ log) = cond (fitsTerm form (r .term)) (cond (eqb (length (r .digest)) 32) (fitsRecords form log) false) false
+fitsRecords form (r ∷ log) =
+    cond (fitsTerm form (r .term)) (cond (eqb (length (r .digest)) 32) (fitsRecords form log) false) false
 
 -- ---- the rules, one to a line
 
@@ -101,7 +105,8 @@ module _ (form : Form) (n : ℕ) where
 unfoldable pub after : State → Act → State
 after s (raise t) = record { term = t; vote = s .vote; stamp = s .stamp; log = s .log }
 after s (vote b) = record { term = b .term; vote = some b; stamp = s .stamp; log = s .log }
-after s (run k records) = record { term = s .term; vote = s .vote; stamp = s .stamp; log = take k (s .log) ++ records }
+after s (run k records) =
+    record { term = s .term; vote = s .vote; stamp = s .stamp; log = take k (s .log) ++ records }
 after s (add r) = record { term = s .term; vote = s .vote; stamp = s .stamp; log = s .log ++ (r ∷ []) }
 after s stamp = record { term = s .term; vote = s .vote; stamp = some (s .term); log = s .log }
 after s (receipt i) = s

@@ -18,7 +18,8 @@ use Rattle.report.specs.Report.{namedIn}
 
 -- ---- naming
 
--- at some index the two have records, and those differ; the index counts from 0 here, and from 1 in document 01
+-- at some index the two have records, and those differ; the index counts from 0 here, and from 1 in
+-- document 01
 pub record Differ (l m : List Record) : Type 0 where
   pub index : ℕ
   pub one : Record
@@ -31,11 +32,13 @@ module _ (roster s₁ s₂ : List ℕ) where
   -- any two accepted submissions that differ at an index committed in both get at least one replica named
   unfoldable pub Naming : ℕ → List ℕ → Type 0
   Naming number report =
-      number ≡ 0 → Differ (committed (viewOf roster s₁)) (committed (viewOf roster s₂)) → namedIn report ≡ 0 → ⊥
+      number ≡ 0 → Differ (committed (viewOf roster s₁)) (committed (viewOf roster s₂))
+      → namedIn report ≡ 0 → ⊥
 
   -- ---- fairness
 
-  -- each signature in the two submissions that is good under the replica's key stands on a statement signed in the list
+  -- each signature in the two submissions that is good under the replica's key stands on a statement signed
+  -- in the list
   unfoldable pub OwnSignatures : ℕ → List Act → Type 0
   OwnSignatures k acts =
       (x : Slot) → List·Memᴰ x (slotsOf roster s₁ ++ slotsOf roster s₂)
@@ -45,11 +48,12 @@ module _ (roster s₁ s₂ : List ℕ) where
   -- the chain strings of every log held and of the two submissions
   unfoldable pub strings : List Act → List (List ℕ)
   strings acts =
-      flatMap (chainStrings (formOf roster)) (held first acts) ++ chainStrings (formOf roster) (viewOf roster s₁ .log)
+      flatMap (chainStrings (formOf roster)) (held first acts)
+      ++ chainStrings (formOf roster) (viewOf roster s₁ .log)
       ++ chainStrings (formOf roster) (viewOf roster s₂ .log)
 
-  -- a replica whose acts all kept the board rules is never named, whatever others did or sent: one claim over its whole list of acts. With
-  -- number 1 there is no report
+  -- a replica whose acts all kept the board rules is never named, whatever others did or sent: one claim over
+  -- its whole list of acts. With number 1 there is no report
   unfoldable pub Fairness : ℕ → List ℕ → Type 0
   Fairness number report =
       (number ≡ 1 → ⊥) → (k : ℕ) → 0 < k → k ≤ replicas roster

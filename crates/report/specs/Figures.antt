@@ -1,4 +1,5 @@
--- The marked figures of document 01, "Bench figures", as one list: what the definitions give, and what the paper says.
+-- The marked figures of document 01, "Bench figures", as one list: what the definitions give, and what the
+-- paper says.
 use mathlib.Core.List.{List, [], _∷_, _++_, flatMap}
 use mathlib.Core.Option.{Option, some, none}
 use Prim.Native.Nat.{ℕ}
@@ -26,7 +27,8 @@ sampleRoster n ks = replicate nameSize 7 ++ be 2 n ++ flatMap sampleKey ks
 unfoldable pub sampleSubmission : List ℕ
 sampleSubmission = replicate nameSize 7 ++ flatMap (be 4) (0 ∷ 0 ∷ 0 ∷ 0 ∷ 0 ∷ 0 ∷ 1 ∷ [])
 
--- after a receipt (term 3, index 7), a vote in term 5 on the last term and index given: the rule broken, 0 for none
+-- after a receipt (term 3, index 7), a vote in term 5 on the last term and index given: the rule broken, 0
+-- for none
 unfoldable pub ruleOf : Option Charge → ℕ
 ruleOf none = 0
 ruleOf (some c) = c .rule
@@ -34,7 +36,8 @@ ruleOf (some c) = c .rule
 unfoldable pub receiptThenVote : ℕ → ℕ → ℕ
 receiptThenVote u j =
     let r : Record = record { term = 3; digest = replicate 32 0 } in
-    let ballot : Ballot = record { candidate = 1; term = 5; lastTerm = u; lastIndex = j; lastPointer = replicate 32 0 } in
+    let ballot : Ballot =
+    record { candidate = 1; term = 5; lastTerm = u; lastIndex = j; lastPointer = replicate 32 0 } in
     ruleOf (lowest (clash (received 3 (replicate 7 r)) (voted ballot)))
 
 -- ---- the list
@@ -46,7 +49,8 @@ auditFigures =
     figure (quorum 9) 5 ∷
     figure (rosterNumber (sampleRoster 2 (1 ∷ 2 ∷ []))) 2 ∷
     figure (rosterNumber (sampleRoster 10 (1 ∷ 2 ∷ 3 ∷ 4 ∷ 5 ∷ 6 ∷ 7 ∷ 8 ∷ 9 ∷ 10 ∷ []))) 2 ∷
-    figure (rosterNumber (sampleRoster 3 (1 ∷ 2 ∷ 3 ∷ []))) 0 ∷  -- a roster that is accepted, beside the paper's figures
+    -- a roster that is accepted, beside the paper's figures
+    figure (rosterNumber (sampleRoster 3 (1 ∷ 2 ∷ 3 ∷ []))) 0 ∷
     figure (receiptThenVote 3 6) 3 ∷
     figure (receiptThenVote 3 7) 0 ∷
     figure (receiptThenVote 4 1) 0 ∷

@@ -1,3 +1,4 @@
 pub mod Report
 pub mod Claims
 pub mod Figures
+pub mod Places

@@ -1,4 +1,5 @@
--- The report (document 01, "The report" and "What stops an audit"): the number, and every byte of the buffer afterwards.
+-- The report (document 01, "The report" and "What stops an audit"): the number, and every byte of the buffer
+-- afterwards.
 use mathlib.Core.Bool.{Bool, cond}
 use mathlib.Core.List.{List, _++_, flatMap}
 use mathlib.Core.Option.{Option, some, none}
@@ -32,7 +33,8 @@ answer roster first second =
     cond (eqb (rosterNumber roster) 0)
     (cond (eqb a 0)
     (cond (eqb b 0)
-    (record { number = 0; place = 0; findings = findings (signatureSize roster) (viewOf roster first) (viewOf roster second) })
+    (let found = findings (signatureSize roster) (viewOf roster first) (viewOf roster second) in
+    record { number = 0; place = 0; findings = found })
     (refused b 2))
     (refused a 1))
     (refused (rosterNumber roster) 0)
@@ -50,7 +52,8 @@ rowBytes (some c) = be 1 (c .rule) ++ be 4 (c .term)
 unfoldable pub reportBytes : Answer → List ℕ
 reportBytes a =
     let f = a .findings in
-    be 1 (a .number) ++ be 1 (a .place) ++ be 4 (f .fork) ++ be 2 (maskOf (f .rows)) ++ flatMap rowBytes (f .rows)
+    be 1 (a .number) ++ be 1 (a .place) ++ be 4 (f .fork) ++ be 2 (maskOf (f .rows))
+    ++ flatMap rowBytes (f .rows)
 
 -- 1: the report buffer is below 53 bytes
 unfoldable pub short : List ℕ → Bool
@@ -60,7 +63,8 @@ short report = ltb (length report) reportSize
 unfoldable pub auditNumber : List ℕ → List ℕ → List ℕ → List ℕ → ℕ
 auditNumber roster first second report = cond (short report) 1 (answer roster first second .number)
 
--- the report buffer afterwards: untouched with number 1, otherwise its first 53 bytes written and the rest kept
+-- the report buffer afterwards: untouched with number 1, otherwise its first 53 bytes written and the rest
+-- kept
 unfoldable pub reportAfter : List ℕ → List ℕ → List ℕ → List ℕ → List ℕ
 reportAfter roster first second report =
     cond (short report) report (reportBytes (answer roster first second) ++ drop reportSize report)

@@ -7,7 +7,11 @@ ghost use lib.Seq.{sets};
 ghost use Rattle.words.specs.BigEndian.{be};
 ghost use Rattle.forensics_charges.specs.Charges.{chargeOf};
 ghost use Rattle.report.specs.Report.{reportSize, rowBytes};
+ghost use Rattle.report.specs.Places.{rowsPlace, rowSize};
 use forensics_charges::Row;
+use report::ROW_SIZE;
+use report::ROW_TERM_AT;
+use report::ROWS_AT;
 
 pub mod mask;
 
@@ -18,23 +22,23 @@ fn term_of(row: Row) -> u32
     if row.rule == 0 { 0 } else { row.term }
 }
 
-// Writes a row to the 5 bytes at a place: zeros if its replica is not named.
+// Writes a row at a place: zeros if its replica is not named.
 fn put_row(out: &mut [u8], at: usize, row: Row)
-    requires { ⌜ at + 5 ≤ length (now out) ⌝ }
+    requires { ⌜ at + rowSize ≤ length (now out) ⌝ }
     ensures { λ _. ⌜ now (out .exit) ≡ sets (now (out .entry)) at (rowBytes (chargeOf row)) ⌝ }
 {
     words::put_u8(out, at, row.rule as u32);
-    words::put_u32(out, at + 1, term_of(row));
+    words::put_u32(out, at + ROW_TERM_AT, term_of(row));
 }
 
-// Writes nine rows to the places from 8 on.
+// Writes nine rows, one after the other.
 pub fn put_rows(out: &mut [u8], rows: [Row; 9])
     requires { ⌜ reportSize ≤ length (now out) ⌝ }
-    ensures { λ _. ⌜ now (out .exit) ≡ sets (now (out .entry)) 8 (flatMap rowBytes (map chargeOf rows)) ⌝ }
+    ensures { λ _. ⌜ now (out .exit) ≡ sets (now (out .entry)) rowsPlace (flatMap rowBytes (map chargeOf rows)) ⌝ }
 {
     let mut i: usize = 0;
-    while i < 9 {
-        put_row(out, 8 + 5 * i, rows[i]);
+    while i < forensics_charges::ROW_COUNT {
+        put_row(out, ROWS_AT + ROW_SIZE * i, rows[i]);
         i += 1;
     }
 }

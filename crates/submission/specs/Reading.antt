@@ -1,5 +1,5 @@
--- The parts of a submission and where they stand (document 01, "A submission, read from its trailer"), over the term's width w and the
--- signature's length S: each begins where the one before ends.
+-- The parts of a submission and where they stand (document 01, "A submission, read from its trailer"), over
+-- the term's width w and the signature's length S: each begins where the one before ends.
 use mathlib.Core.Bool.{Bool, true, cond}
 use mathlib.Core.List.{List, [], _∷_}
 use mathlib.Core.Option.{Option, some, none}
@@ -23,7 +23,8 @@ recordSize w = w + 32
 unfoldable pub recordsOf : ℕ → ℕ → List ℕ → List Record
 recordsOf w zero bytes = []
 recordsOf w (suc count) bytes =
-    record { term = number (take w bytes); digest = take 32 (drop w bytes) } ∷ recordsOf w count (drop (recordSize w) bytes)
+    record { term = number (take w bytes); digest = take 32 (drop w bytes) }
+    ∷ recordsOf w count (drop (recordSize w) bytes)
 
 -- ---- part 2
 
@@ -59,7 +60,8 @@ stampsAt S s (suc count) at = take S (drop at s) ∷ stampsAt S s count (at + S)
 -- ---- part 4
 
 unfoldable pub commitAt : List ℕ → ℕ → Commit
-commitAt s at = record { index = numberAt 4 s at; signers = signersAt s (at + 4); signatures = drop (at + 6) s }
+commitAt s at =
+    record { index = numberAt 4 s at; signers = signersAt s (at + 4); signatures = drop (at + 6) s }
 
 -- the place after it: one signature for each of its ones among all sixteen bits
 unfoldable pub commitEnd : ℕ → List ℕ → ℕ → ℕ
@@ -102,11 +104,13 @@ module _ (w S : ℕ) (s : List ℕ) where
         commit = commitOf;
       }
 
-  -- 9: each part begins where its distance says, and the last ends at the trailer. Without a commit certificate part 3 ends there
+  -- 9: each part begins where its distance says, and the last ends at the trailer. Without a commit
+  -- certificate part 3 ends there
   unfoldable pub laidOut : Bool
   laidOut =
       let T = trailerAt s in
       all (
       eqb (distance s 1) T ∷ eqb (leadersFrom + distance s 2) T ∷ eqb (stampsFrom + distance s 3) T ∷
-      eqb (commitFrom + distance s 4) T ∷ cond (eqb (distance s 4) 0) true (eqb (commitEnd S s commitFrom) T) ∷ []
+      eqb (commitFrom + distance s 4) T ∷ cond (eqb (distance s 4) 0) true (eqb (commitEnd S s commitFrom) T)
+      ∷ []
       )

@@ -1,5 +1,5 @@
--- The checks on a submission (document 01, "What stops an audit", 5 to 15), each beside the paper's words, and the number of the first that
--- is not met.
+-- The checks on a submission (document 01, "What stops an audit", 5 to 15), each beside the paper's words,
+-- and the number of the first that is not met.
 use mathlib.Core.Bool.{Bool, true}
 use mathlib.Core.List.{List, [], _∷_, _++_, map}
 use mathlib.Core.Option.{Option, some, none}
@@ -71,14 +71,15 @@ ordered v = rising 1 (v .log)
 unfoldable pub oneEach : View → Bool
 oneEach v = eqb (length (v .leaders)) (length (runs (v .log)))
 
--- 13: that term, last index j - 1, and record j - 1's term and pointer, where j is the term's first record; the candidate is 1 to n
--- and is one of the signers
+-- 13: that term, last index j - 1, and record j - 1's term and pointer, where j is the term's first record;
+-- the candidate is 1 to n and is one of the signers
 unfoldable pub leading : Form → ℕ → Lead → Bool
 leading form n l =
     let b = l .certificate .ballot in
     let before = l .term .before in
     all (
-    eqb (b .term) (lastTerm (l .term .upto)) ∷ eqb (b .lastTerm) (lastTerm before) ∷ eqb (b .lastIndex) (length before) ∷
+    eqb (b .term) (lastTerm (l .term .upto)) ∷
+    eqb (b .lastTerm) (lastTerm before) ∷ eqb (b .lastIndex) (length before) ∷
     same (b .lastPointer) (pointer form before) ∷ leb 1 (b .candidate) ∷ leb (b .candidate) n ∷
     signer (l .certificate .signers) (b .candidate) ∷ []
     )
@@ -88,7 +89,8 @@ unfoldable pub within : Option Commit → ℕ → Bool
 within none H = true
 within (some c) H = all (ltb 0 (c .index) ∷ leb (c .index) H ∷ [])
 
--- 15: the signature is good under the roster's key of its replica, on the statement of its certificate or stamp
+-- 15: the signature is good under the roster's key of its replica, on the statement of its certificate or
+-- stamp
 unfoldable pub genuine : Form → List ℕ → Slot → Bool
 genuine form roster x = good (keyOf roster (x .replica)) (say form (x .claim)) (x .signature)
 
@@ -112,7 +114,8 @@ validate roster s =
     let v = viewOf roster s in
     refusal (
     check 5 (sized s) ∷ check 6 (versioned s) ∷ check 7 (named (cluster roster) s) ∷ check 8 (counted s) ∷
-    check 9 (laidOut (form .termBytes) (signatureSize roster) s) ∷ check 10 (every (quorate n) (masks v)) ∷ check 11 (ordered v) ∷
-    check 12 (oneEach v) ∷ check 13 (every (leading form n) (leads v)) ∷ check 14 (within (v .commit) (length (v .log))) ∷
+    check 9 (laidOut (form .termBytes) (signatureSize roster) s) ∷
+    check 10 (every (quorate n) (masks v)) ∷ check 11 (ordered v) ∷ check 12 (oneEach v) ∷
+    check 13 (every (leading form n) (leads v)) ∷ check 14 (within (v .commit) (length (v .log))) ∷
     check 15 (every (genuine form roster) (slotsOf roster s)) ∷ []
     )

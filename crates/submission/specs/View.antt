@@ -1,5 +1,5 @@
--- What a submission says (document 01, "A submission, read from its trailer"): its log with the terms in it, its certificates, and what
--- each signature stands on.
+-- What a submission says (document 01, "A submission, read from its trailer"): its log with the terms in it,
+-- its certificates, and what each signature stands on.
 use mathlib.Core.List.{List, [], _∷_, _++_, map, flatMap}
 use mathlib.Core.Bool.{cond}
 use mathlib.Core.Option.{Option, some, none}
@@ -25,7 +25,9 @@ unfoldable pub runsFrom : List Record → List Record → List Record → List R
 runsFrom before upto [] = run before upto ∷ []
 runsFrom before upto (r ∷ log) =
     let longer = upto ++ (r ∷ []) in
-    cond (eqb (r .term) (lastTerm upto)) (runsFrom before longer log) (run before upto ∷ runsFrom upto longer log)
+    cond (eqb (r .term) (lastTerm upto))
+    (runsFrom before longer log)
+    (run before upto ∷ runsFrom upto longer log)
 
 -- the runs of the records that follow a log
 unfoldable pub runsAfter : List Record → List Record → List Run
@@ -99,7 +101,9 @@ module _ (S : ℕ) where
   certified claim (k ∷ ks) bytes = slot k claim (take S bytes) ∷ certified claim ks (drop S bytes)
 
   unfoldable pub votesOf : Lead → List Slot
-  votesOf l = let c = l .certificate in certified (voted (c .ballot)) (replicasOf (c .signers)) (c .signatures)
+  votesOf l =
+      let c = l .certificate in
+      certified (voted (c .ballot)) (replicasOf (c .signers)) (c .signatures)
 
   -- the stamp is the candidate's, on the last record of that term in this log
   unfoldable pub stampOf : Lead → Slot

@@ -1,5 +1,6 @@
-// A submission, read from its trailer, and its checks (document 01, "A submission, read from its trailer" and "What stops an audit", numbers 5
-// to 15): definitions and laws, and the widths and places of its parts in version 1, with terms of 4 bytes.
+// A submission, read from its trailer, and its checks (document 01, "A submission, read from its trailer" and
+// "What stops an audit", numbers 5 to 15): definitions and laws, and the widths and places of its parts in
+// version 1, with terms of 4 bytes.
 
 // The bytes of a record: term and payload digest.
 pub const RECORD_SIZE: usize = 36;

@@ -13,7 +13,8 @@ module _ (roster : List ℕ) (S : ℕ) (s : List ℕ) where
   unfoldable pub leaderChecks : List Check
   leaderChecks =
       let v = view 4 S s in
-      check 13 (every (leading (formOf roster) (replicas roster)) (leads v)) ∷ check 14 (within (v .commit) (length (v .log))) ∷
+      check 13 (every (leading (formOf roster) (replicas roster)) (leads v))
+      ∷ check 14 (within (v .commit) (length (v .log))) ∷
       check 15 (every (genuine (formOf roster) roster) (slots S v)) ∷ []
 
   -- 11

@@ -1,4 +1,5 @@
-// The leader certificates against the terms of the log (document 01, "What stops an audit", 13), for version 1: terms of 4 bytes.
+// The leader certificates against the terms of the log (document 01, "What stops an audit", 13), for version
+// 1: terms of 4 bytes.
 ghost use mathlib.Core.Path.{_≡_};
 ghost use mathlib.Core.List.{List, []};
 ghost use Prim.Native.Nat.{ℕ, _+_, _*_, _≤_};
@@ -7,7 +8,8 @@ ghost use Rattle.sha256.specs.Sha256.{bytesOf};
 ghost use Rattle.refusal.specs.Checks.{every};
 ghost use Rattle.log_chain.specs.Log.{version1, pointer};
 ghost use Rattle.submission.specs.View.{run, runs, leadsOf};
-ghost use Rattle.submission.specs.Reading.{recordSize, recordsOf, ballotAt, signersAt, ballotSize, certificateAt, certificates, certificatesEnd};
+ghost use Rattle.submission.specs.Reading.{recordSize, recordsOf, ballotAt, signersAt, ballotSize};
+ghost use Rattle.submission.specs.Reading.{certificateAt, certificates, certificatesEnd};
 ghost use Rattle.submission_leaders.specs.Leads as parts;
 ghost use Rattle.submission.specs.Validate as paper;
 use sha256::State;
@@ -20,7 +22,8 @@ use submission::TERM_AT;
 // Whether the last term, index and pointer of the certificate at a place are those of the first i records.
 fn follows(s: &[u8], at: usize, i: usize, before: State) -> bool
     requires { ⌜ (at + ballotSize 4 ≤ length (now s)) × (recordSize 4 * i ≤ length (now s)) ⌝ }
-    ensures { λ r. ⌜ r ≡ parts.follows (ballotAt 4 (now (s .entry)) at) (recordsOf 4 i (now (s .entry))) (bytesOf before) ⌝ }
+    ensures { λ r. ⌜ r ≡ parts.follows (ballotAt 4 (now (s .entry)) at) (recordsOf 4 i (now (s .entry)))
+        (bytesOf before) ⌝ }
 {
     if words::u32_at(s, at + LAST_TERM_AT) != log_terms::last_term(s, i) {
         return false;
@@ -37,7 +40,8 @@ fn follows(s: &[u8], at: usize, i: usize, before: State) -> bool
 // Whether its candidate is 1 to n and one of its signers.
 fn elected(s: &[u8], at: usize, n: usize) -> bool
     requires { ⌜ at + ballotSize 4 + 2 ≤ length (now s) ⌝ }
-    ensures { λ r. ⌜ r ≡ parts.elected n (signersAt (now (s .entry)) (at + ballotSize 4)) (ballotAt 4 (now (s .entry)) at .candidate) ⌝ }
+    ensures { λ r. ⌜ r ≡ parts.elected n (signersAt (now (s .entry)) (at + ballotSize 4)) (ballotAt 4
+        (now (s .entry)) at .candidate) ⌝ }
 {
     let candidate = words::u16_at(s, at) as usize;
     if candidate < 1 {
@@ -51,8 +55,17 @@ fn elected(s: &[u8], at: usize, n: usize) -> bool
 
 // Whether the certificate at a place is that of the term after record i, which ends with record `end`.
 fn leading(s: &[u8], n: usize, at: usize, i: usize, end: usize, before: State) -> bool
-    requires { ⌜ (at + ballotSize 4 + 2 ≤ length (now s)) × (recordSize 4 * i ≤ length (now s)) × (recordSize 4 * end ≤ length (now s)) × (bytesOf before ≡ pointer (version1 []) (recordsOf 4 i (now s))) ⌝ }
-    ensures { λ r. ⌜ ((name stamp : List ℕ) → r ≡ paper.leading (version1 name) n (record { certificate = certificateAt 4 (now (s .entry)) at; term = run (recordsOf 4 i (now (s .entry))) (recordsOf 4 end (now (s .entry))); stamp = stamp })) ⌝ }
+    requires { ⌜ (at + ballotSize 4 + 2 ≤ length (now s)) × (recordSize 4 * i ≤ length (now s))
+        × (recordSize 4 * end ≤ length (now s))
+        × (bytesOf before ≡ pointer (version1 []) (recordsOf 4 i (now s))) ⌝ }
+    ensures { λ r. ⌜ ((name stamp : List ℕ)
+        → r ≡ paper.leading (version1 name) n (record {
+          certificate = certificateAt 4
+              (now (s .entry)) at;
+          term = run (recordsOf 4 i (now (s .entry))) (recordsOf 4 end
+              (now (s .entry)));
+          stamp = stamp;
+        })) ⌝ }
 {
     if words::u32_at(s, at + TERM_AT) != log_terms::last_term(s, end) {
         return false;
@@ -64,7 +77,7 @@ fn leading(s: &[u8], n: usize, at: usize, i: usize, end: usize, before: State) -
 }
 
 // 13: whether each certificate is that of its term.
-pub fn all_leading(
+pub fn leaders_match_log(
     s: &[u8],
     n: usize,
     size: usize,
@@ -72,8 +85,12 @@ pub fn all_leading(
     leaders: usize,
     at: usize,
 ) -> bool
-    requires { ⌜ (records ≤ paper.recordMost) × (recordSize 4 * records ≤ length (now s)) × (leaders ≡ length (runs (recordsOf 4 records (now s)))) × (certificatesEnd 4 size (now s) leaders at ≤ length (now s)) ⌝ }
-    ensures { λ r. ⌜ ((name : List ℕ) (stamps : List (List ℕ)) → length stamps ≡ leaders → r ≡ every (paper.leading (version1 name) n) (leadsOf (certificates 4 size (now (s .entry)) leaders at) (runs (recordsOf 4 records (now (s .entry)))) stamps)) ⌝ }
+    requires { ⌜ (records ≤ paper.recordMost) × (recordSize 4 * records ≤ length (now s))
+        × (leaders ≡ length (runs (recordsOf 4 records (now s))))
+        × (certificatesEnd 4 size (now s) leaders at ≤ length (now s)) ⌝ }
+    ensures { λ r. ⌜ ((name : List ℕ) (stamps : List (List ℕ)) → length stamps ≡ leaders
+        → r ≡ every (paper.leading (version1 name) n) (leadsOf (certificates 4 size
+        (now (s .entry)) leaders at) (runs (recordsOf 4 records (now (s .entry)))) stamps)) ⌝ }
 {
     let mut left = leaders;
     let mut place = at;

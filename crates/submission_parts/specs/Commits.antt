@@ -11,4 +11,6 @@ use Rattle.submission_parts.specs.declared.CommitPart.the-variants.{Foun
 
 -- the numbers and the place of the commit certificate, where there is one
 unfoldable pub commitPart : ℕ → List ℕ → CommitPart
-commitPart S s = let at = commitFrom 4 S s in cond (eqb (distance s 4) 0) Absent (Found (commitNumbersAt s at) at)
+commitPart S s =
+    let at = commitFrom 4 S s in
+    cond (eqb (distance s 4) 0) Absent (Found (commitNumbersAt s at) at)

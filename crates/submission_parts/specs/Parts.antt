@@ -1,4 +1,5 @@
--- Check 9 from a part on (document 01, "A submission, read from its trailer"), and what the checks before it leave.
+-- Check 9 from a part on (document 01, "A submission, read from its trailer"), and what the checks before it
+-- leave.
 use mathlib.Core.Bool.{Bool, true, cond}
 use mathlib.Core.List.{List, [], _∷_}
 use Prim.Native.Nat.{ℕ, _+_, _*_, _≤_}

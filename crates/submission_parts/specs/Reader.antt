@@ -1,5 +1,6 @@
--- What a reader of a certificate gives (document 01, "A submission, read from its trailer": "either its fields with the next place, or a
--- refusal"): a certificate is refused, number 9, where it does not lie before an end.
+-- What a reader of a certificate gives (document 01, "A submission, read from its trailer": "either its
+-- fields with the next place, or a refusal"): a certificate is refused, number 9, where it does not lie
+-- before an end.
 use mathlib.Core.Bool.{cond}
 use mathlib.Core.List.{List, [], _∷_}
 use Prim.Native.Nat.{ℕ, _+_}
@@ -11,9 +12,11 @@ use Rattle.submission_parts.specs.declared.Place.{Place}
 use Rattle.submission_parts.specs.declared.Place.the-variants.{At, Refused as Beyond}
 use Rattle.submission_parts.specs.declared.Commit.{Commit}
 use Rattle.submission_parts.specs.declared.CommitReading.{CommitReading}
-use Rattle.submission_parts.specs.declared.CommitReading.the-variants.{Read as ReadCommit, Refused as NoCommit}
+use Rattle.submission_parts.specs.declared.CommitReading.the-variants.{Read as ReadCommit}
+use Rattle.submission_parts.specs.declared.CommitReading.the-variants.{Refused as NoCommit}
 use Rattle.refusal.specs.Checks.{check, refusal}
-use Rattle.submission.specs.Reading.{ballotSize, ballotAt, signersAt, certificateEnd, certificatesEnd, commitAt, commitEnd}
+use Rattle.submission.specs.Reading.{ballotSize, ballotAt, signersAt, certificateEnd, certificatesEnd}
+use Rattle.submission.specs.Reading.{commitAt, commitEnd}
 
 -- the most bytes of a signature
 abbrev pub signatureMost : ℕ
@@ -22,6 +25,10 @@ signatureMost = 1932
 -- the bytes of a leader certificate before its signatures
 abbrev pub fieldsSize : ℕ
 fieldsSize = 48
+
+-- where the last pointer stands among a vote's fields, after the last index
+abbrev pub lastPointerPlace : ℕ
+lastPointerPlace = 14
 
 -- the numbers of the certificate at a place
 unfoldable pub numbersAt : List ℕ → ℕ → Certificate
@@ -59,7 +66,9 @@ endNumber place end = refusal (check 9 (leb place end) ∷ [])
 module _ (S : ℕ) (s : List ℕ) where
   -- the leader certificate at a place
   unfoldable pub reading : ℕ → ℕ → Reading
-  reading at end = let next = certificateEnd 4 S s at in cond (leb next end) (Read (numbersAt s at) next) Refused
+  reading at end =
+      let next = certificateEnd 4 S s at in
+      cond (leb next end) (Read (numbersAt s at) next) Refused
 
   -- so many leader certificates, one after the other
   unfoldable pub placeAfter : ℕ → ℕ → ℕ → Place
@@ -67,4 +76,6 @@ module _ (S : ℕ) (s : List ℕ) where
 
   -- the commit certificate at a place
   unfoldable pub commitReading : ℕ → ℕ → CommitReading
-  commitReading at end = let next = commitEnd S s at in cond (leb next end) (ReadCommit (commitNumbersAt s at) next) NoCommit
+  commitReading at end =
+      let next = commitEnd S s at in
+      cond (leb next end) (ReadCommit (commitNumbersAt s at) next) NoCommit

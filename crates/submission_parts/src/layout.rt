@@ -1,5 +1,5 @@
-// Where the parts of a submission stand (document 01, "A submission, read from its trailer", and "What stops an audit", 9), for version 1: terms of 4
-// bytes.
+// Where the parts of a submission stand (document 01, "A submission, read from its trailer", and "What stops
+// an audit", 9), for version 1: terms of 4 bytes.
 ghost use mathlib.Core.Path.{_≡_};
 ghost use Prim.Native.Nat.{_+_, _-_, _*_, _≤_};
 ghost use lib.ListN.{length};
@@ -65,7 +65,7 @@ pub fn stamps_from(s: &[u8]) -> usize
 }
 
 // 9: whether each part begins where its distance says, and ends where the next begins.
-pub fn laid_out(s: &[u8], size: usize) -> bool
+pub fn parts_laid_out(s: &[u8], size: usize) -> bool
     requires { ⌜ Bounds size (now s) ⌝ }
     ensures { λ r. ⌜ r ≡ paper.laidOut 4 size (now (s .entry)) ⌝ }
 {

@@ -1,5 +1,6 @@
-// The readers of certificates: the fields with the next place, or a refusal where the certificate does not lie before an end (document 01,
-// "A submission, read from its trailer").
+// The parts of a submission (document 01, "A submission, read from its trailer"; "What stops an audit", 9): the
+// readers of certificates, which give the fields with the next place, or a refusal where the certificate does
+// not lie before an end; the commit certificate, or none; and, in `layout`, where the parts stand.
 ghost use mathlib.Core.Path.{_≡_};
 ghost use mathlib.Core.Bool.{true};
 ghost use Prim.Native.Nat.{_+_, _*_, _≤_};
@@ -78,8 +79,10 @@ pub fn certificate_end(s: &[u8], at: usize, size: usize) -> usize
 
 // The leader certificate at a place.
 pub fn read(s: &[u8], at: usize, end: usize, size: usize) -> Reading
-    requires { ⌜ (at ≤ end) × (end ≤ length (now s)) × (length (now s) ≤ submissionMost) × (size ≤ inner.signatureMost) ⌝ }
-    ensures { λ r. ⌜ (r ≡ inner.reading size (now (s .entry)) at end) × (inner.readingNumber r ≡ inner.endNumber (certificateEnd 4 size (now (s .entry)) at) end) ⌝ }
+    requires { ⌜ (at ≤ end) × (end ≤ length (now s)) × (length (now s) ≤ submissionMost)
+        × (size ≤ inner.signatureMost) ⌝ }
+    ensures { λ r. ⌜ (r ≡ inner.reading size (now (s .entry)) at end)
+        × (inner.readingNumber r ≡ inner.endNumber (certificateEnd 4 size (now (s .entry)) at) end) ⌝ }
 {
     if end < at + BALLOT_SIZE + SIGNERS_SIZE {
         return Reading::Refused;
@@ -109,7 +112,8 @@ pub fn numbers_at(s: &[u8], at: usize) -> Certificate
 
 // The place after so many leader certificates from a place on.
 pub fn place_after(s: &[u8], count: usize, from: usize, end: usize, size: usize) -> Place
-    requires { ⌜ (from ≤ end) × (end ≤ length (now s)) × (length (now s) ≤ submissionMost) × (size ≤ inner.signatureMost) ⌝ }
+    requires { ⌜ (from ≤ end) × (end ≤ length (now s)) × (length (now s) ≤ submissionMost)
+        × (size ≤ inner.signatureMost) ⌝ }
     ensures { λ r. ⌜ (r ≡ inner.placeAfter size (now (s .entry)) count from end)
         × (inner.placeNumber r ≡ inner.endNumber (certificatesEnd 4 size (now (s .entry)) count from) end) ⌝ }
 {
@@ -127,8 +131,10 @@ pub fn place_after(s: &[u8], count: usize, from: usize, end: usize, size: usize)
 
 // The commit certificate at a place.
 pub fn read_commit(s: &[u8], at: usize, end: usize, size: usize) -> CommitReading
-    requires { ⌜ (at ≤ end) × (end ≤ length (now s)) × (length (now s) ≤ submissionMost) × (size ≤ inner.signatureMost) ⌝ }
-    ensures { λ r. ⌜ (r ≡ inner.commitReading size (now (s .entry)) at end) × (inner.commitReadingNumber r ≡ inner.endNumber (commitEnd size (now (s .entry)) at) end) ⌝ }
+    requires { ⌜ (at ≤ end) × (end ≤ length (now s)) × (length (now s) ≤ submissionMost)
+        × (size ≤ inner.signatureMost) ⌝ }
+    ensures { λ r. ⌜ (r ≡ inner.commitReading size (now (s .entry)) at end)
+        × (inner.commitReadingNumber r ≡ inner.endNumber (commitEnd size (now (s .entry)) at) end) ⌝ }
 {
     if end < at + COMMIT_FIELDS_SIZE {
         return CommitReading::Refused;
@@ -146,8 +152,8 @@ pub fn read_commit(s: &[u8], at: usize, end: usize, size: usize) -> CommitReadin
     CommitReading::Read(numbers, next)
 }
 
-// The commit certificate of a laid-out submission. Check 9 has read it before, and handed a refusal up (`layout::commit_stands`): here the proof shows that
-// none comes.
+// The commit certificate of a laid-out submission. Check 9 has read it before, and handed a refusal up
+// (`layout::commit_stands`): here the proof shows that none comes.
 pub fn commit_part(s: &[u8], size: usize) -> CommitPart
     requires { ⌜ Bounds size (now s) × (laidOut 4 size (now s) ≡ true) ⌝ }
     ensures { λ r. ⌜ r ≡ commitPart size (now (s .entry)) ⌝ }

@@ -13,7 +13,7 @@ use submission_parts::CommitPart;
 use submission_parts::Reading;
 
 // Whether a mask has a quorum of n replicas, and no bit above replica n.
-pub fn quorate(n: usize, mask: u16) -> bool
+pub fn mask_quorate(n: usize, mask: u16) -> bool
     requires { ⌜ (0 < n) × (n ≤ 9) ⌝ }
     ensures { λ r. ⌜ r ≡ paper.quorate n mask ⌝ }
 {
@@ -23,9 +23,11 @@ pub fn quorate(n: usize, mask: u16) -> bool
     (mask as u32) < 1 << n
 }
 
-// Whether the signers of so many leader certificates from a place on are so. All of them lie before `end`, so that no reading is refused.
+// Whether each of so many leader certificates from a place on has a quorum of signers. All of them lie before
+// `end`, so that no reading is refused.
 fn leaders_quorate(s: &[u8], n: usize, count: usize, from: usize, end: usize, size: usize) -> bool
-    requires { ⌜ (0 < n) × (n ≤ 9) × (end ≤ length (now s)) × (length (now s) ≤ paper.submissionMost) × (size ≤ signatureMost)
+    requires { ⌜ (0 < n) × (n ≤ 9) × (end ≤ length (now s)) × (length (now s) ≤ paper.submissionMost)
+        × (size ≤ signatureMost)
         × (certificatesEnd 4 size (now s) count from ≤ end) ⌝ }
     ensures { λ r. ⌜ r ≡ every (paper.quorate n) (leaderMasks size (now (s .entry)) count from) ⌝ }
 {
@@ -35,7 +37,7 @@ fn leaders_quorate(s: &[u8], n: usize, count: usize, from: usize, end: usize, si
         let Reading::Read(c, next) = submission_parts::read(s, at, end, size) else {
             return false;
         };
-        if !quorate(n, c.signers) {
+        if !mask_quorate(n, c.signers) {
             return false;
         }
         at = next;
@@ -44,7 +46,7 @@ fn leaders_quorate(s: &[u8], n: usize, count: usize, from: usize, end: usize, si
     true
 }
 
-// Whether the commit certificate's signers are so, where there is one.
+// Whether the commit certificate, where there is one, has a quorum of signers.
 fn commit_quorate(s: &[u8], n: usize, size: usize) -> bool
     requires { ⌜ (0 < n) × (n ≤ 9) × Bounds size (now s) × (laidOut 4 size (now s) ≡ true) ⌝ }
     ensures { λ r. ⌜ r ≡ every (paper.quorate n) (paper.commitSigners (commitOf 4 size (now (s .entry)))) ⌝ }
@@ -52,11 +54,11 @@ fn commit_quorate(s: &[u8], n: usize, size: usize) -> bool
     let CommitPart::Found(commit, _) = submission_parts::commit_part(s, size) else {
         return true;
     };
-    quorate(n, commit.signers)
+    mask_quorate(n, commit.signers)
 }
 
-// 10: whether the signers of every certificate are so.
-pub fn all_quorate(s: &[u8], n: usize, size: usize) -> bool
+// 10: whether every certificate has a quorum of signers, and no signer above replica n.
+pub fn all_signers_quorate(s: &[u8], n: usize, size: usize) -> bool
     requires { ⌜ (0 < n) × (n ≤ 9) × Bounds size (now s) × (laidOut 4 size (now s) ≡ true) ⌝ }
     ensures { λ r. ⌜ r ≡ every (paper.quorate n) (paper.masks (view 4 size (now (s .entry)))) ⌝ }
 {

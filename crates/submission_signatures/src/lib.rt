@@ -20,8 +20,10 @@ pub mod votes;
 
 // Whether the stamps are good, from the pointer of record i.
 fn stamps_good_from(roster: &[u8], s: &[u8], size: usize, i: usize, before: State) -> bool
-    requires { ⌜ Checked (now roster) size (now s) × (i ≤ recordCount (now s)) × (bytesOf before ≡ chain.pointer (chain.version1 []) (recordsOf 4 i (now s))) ⌝ }
-    ensures { λ r. ⌜ r ≡ every (genuine (formOf (now (roster .entry))) (now (roster .entry))) (map (stampOf size) (leads (view 4 size (now (s .entry))))) ⌝ }
+    requires { ⌜ Checked (now roster) size (now s) × (i ≤ recordCount (now s))
+        × (bytesOf before ≡ chain.pointer (chain.version1 []) (recordsOf 4 i (now s))) ⌝ }
+    ensures { λ r. ⌜ r ≡ every (genuine (formOf (now (roster .entry))) (now (roster .entry))) (map
+        (stampOf size) (leads (view 4 size (now (s .entry))))) ⌝ }
 {
     let records = submission_trailer::record_count(s);
     let end = log_terms::pointers::pointer_after(s, i, records, before);
@@ -31,12 +33,14 @@ fn stamps_good_from(roster: &[u8], s: &[u8], size: usize, i: usize, before: Stat
     stamps::stamps_good(roster, s, size, records, leaders, from, stamps, end)
 }
 
-// Whether the stamps and the receipts are good. Each record is hashed once: first up to the commit index, whose pointer the receipts have, then
-// to the log's end.
+// Whether the stamps and the receipts are good. Each record is hashed once: first up to the commit index,
+// whose pointer the receipts have, then to the log's end.
 fn places_good(roster: &[u8], s: &[u8], size: usize) -> bool
     requires { ⌜ Checked (now roster) size (now s) ⌝ }
-    ensures { λ r. ⌜ r ≡ cond (every (genuine (formOf (now (roster .entry))) (now (roster .entry))) (map (stampOf size) (leads (view 4 size (now (s .entry))))))
-        (every (genuine (formOf (now (roster .entry))) (now (roster .entry))) (receiptsOf size (view 4 size (now (s .entry)) .commit) (view 4 size (now (s .entry)) .log))) false ⌝ }
+    ensures { λ r. ⌜ r ≡ cond (every (genuine (formOf (now (roster .entry))) (now (roster .entry))) (map
+        (stampOf size) (leads (view 4 size (now (s .entry))))))
+        (every (genuine (formOf (now (roster .entry))) (now (roster .entry))) (receiptsOf size (view 4 size
+        (now (s .entry)) .commit) (view 4 size (now (s .entry)) .log))) false ⌝ }
 {
     let CommitPart::Found(c, at) = submission_parts::commit_part(s, size) else {
         return stamps_good_from(roster, s, size, 0, log_terms::pointers::pointer_zero());
@@ -62,9 +66,10 @@ fn places_good(roster: &[u8], s: &[u8], size: usize) -> bool
 }
 
 // 15: whether every signature is good.
-pub fn all_good(roster: &[u8], s: &[u8], size: usize) -> bool
+pub fn all_signatures_good(roster: &[u8], s: &[u8], size: usize) -> bool
     requires { ⌜ Checked (now roster) size (now s) ⌝ }
-    ensures { λ r. ⌜ r ≡ every (genuine (formOf (now (roster .entry))) (now (roster .entry))) (slots size (view 4 size (now (s .entry)))) ⌝ }
+    ensures { λ r. ⌜ r ≡ every (genuine (formOf (now (roster .entry))) (now (roster .entry))) (slots size
+        (view 4 size (now (s .entry)))) ⌝ }
 {
     let leaders = submission_trailer::leader_count(s);
     let from = submission_parts::layout::leaders_from(s);

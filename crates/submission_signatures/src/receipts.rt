@@ -19,7 +19,8 @@ use submission::COMMIT_SIGNERS_AT;
 // A receipt's kind byte.
 const RECEIPT: u8 = 2;
 
-// Whether the receipts of the commit certificate at a place are good, from the pointer of the record that it names.
+// Whether the receipts of the commit certificate at a place are good, from the pointer of the record that it
+// names.
 pub fn receipts_good(
     roster: &[u8],
     s: &[u8],
@@ -28,10 +29,13 @@ pub fn receipts_good(
     at: usize,
     pointer: State,
 ) -> bool
-    requires { ⌜ (rosterNumber (now roster) ≡ 0) × (recordSize 4 * records ≤ length (now s)) × (commitEnd size (now s) at ≤ length (now s))
+    requires { ⌜ (rosterNumber (now roster) ≡ 0) × (recordSize 4 * records ≤ length (now s))
+        × (commitEnd size (now s) at ≤ length (now s))
         × (signersAt (now s) (at + 4) < 2 ^ replicas (now roster)) × (numberAt 4 (now s) at ≤ records)
-        × (bytesOf pointer ≡ chain.pointer (chain.version1 []) (recordsOf 4 (numberAt 4 (now s) at) (now s))) ⌝ }
-    ensures { λ r. ⌜ r ≡ every (paper.genuine (paper.formOf (now (roster .entry))) (now (roster .entry))) (receiptsOf size (some (commitAt (now (s .entry)) at)) (recordsOf 4 records (now (s .entry)))) ⌝ }
+        × (bytesOf pointer ≡ chain.pointer (chain.version1 []) (recordsOf 4 (numberAt 4 (now s) at)
+        (now s))) ⌝ }
+    ensures { λ r. ⌜ r ≡ every (paper.genuine (paper.formOf (now (roster .entry))) (now (roster .entry)))
+        (receiptsOf size (some (commitAt (now (s .entry)) at)) (recordsOf 4 records (now (s .entry)))) ⌝ }
 {
     let index = words::u32_at(s, at);
     let term = log_terms::last_term(s, index as usize);
@@ -42,7 +46,7 @@ pub fn receipts_good(
         index,
         pointer,
     );
-    submission_slots::all_good(
+    submission_slots::certificate_signatures_good(
         roster,
         &statement,
         words::u16_at(s, at + COMMIT_SIGNERS_AT),

@@ -12,9 +12,10 @@ ghost use Rattle.submission_slots.specs.Signatures.{goodAll};
 use lm_answer::Answer;
 
 // Whether a signature is replica k's on a message.
-pub fn genuine(roster: &[u8], k: usize, message: &[u8], signature: &[u8]) -> bool
+pub fn signature_genuine(roster: &[u8], k: usize, message: &[u8], signature: &[u8]) -> bool
     requires { ⌜ (0 < k) × (headSize + keySize * k ≤ length (now roster)) × (length (now message) ≤ limit) ⌝ }
-    ensures { λ r. ⌜ r ≡ good (keyOf (now (roster .entry)) k) (now (message .entry)) (now (signature .entry)) ⌝ }
+    ensures { λ r. ⌜ r ≡ good (keyOf (now (roster .entry)) k) (now (message .entry))
+        (now (signature .entry)) ⌝ }
 {
     match lms::check(roster::key_of(roster, k), message, signature) {
         Answer::Good => true,
@@ -24,10 +25,19 @@ pub fn genuine(roster: &[u8], k: usize, message: &[u8], signature: &[u8]) -> boo
 }
 
 // Whether the signatures from a place on are those of a mask's replicas on a message, one each.
-pub fn all_good(roster: &[u8], message: &[u8], mask: u16, s: &[u8], at: usize, size: usize) -> bool
-    requires { ⌜ (rosterNumber (now roster) ≡ 0) × (length (now message) ≤ limit) × (mask < 2 ^ replicas (now roster))
+pub fn certificate_signatures_good(
+    roster: &[u8],
+    message: &[u8],
+    mask: u16,
+    s: &[u8],
+    at: usize,
+    size: usize,
+) -> bool
+    requires { ⌜ (rosterNumber (now roster) ≡ 0) × (length (now message) ≤ limit)
+        × (mask < 2 ^ replicas (now roster))
         × (at + size * ones mask ≤ length (now s)) ⌝ }
-    ensures { λ r. ⌜ r ≡ goodAll (now (roster .entry)) (now (message .entry)) size (replicasOf mask) (drop at (now (s .entry))) ⌝ }
+    ensures { λ r. ⌜ r ≡ goodAll (now (roster .entry)) (now (message .entry)) size (replicasOf mask)
+        (drop at (now (s .entry))) ⌝ }
 {
     let mut k = 0;
     let mut rest = mask;
@@ -38,7 +48,7 @@ pub fn all_good(roster: &[u8], message: &[u8], mask: u16, s: &[u8], at: usize, s
         k += 1;
         if bit == 1 {
             let end = from + size;
-            if !genuine(roster, k, message, &s[from..end]) {
+            if !signature_genuine(roster, k, message, &s[from..end]) {
                 return false;
             }
             from = end;

@@ -1,4 +1,5 @@
-// The trailer: the last 44 bytes (document 01, "A submission, read from its trailer", part 5), and the checks on it ("What stops an audit", 5 to 8).
+// The trailer: the last 44 bytes (document 01, "A submission, read from its trailer", part 5), and the checks
+// on it ("What stops an audit", 5 to 8).
 ghost use mathlib.Core.Path.{_≡_};
 ghost use Prim.Native.Nat.{_≤_, _<_};
 ghost use lib.ListN.{length};
@@ -67,7 +68,7 @@ pub fn version(s: &[u8]) -> u32
 }
 
 // 5: whether there are 44 to 2,097,152 bytes.
-pub fn sized(s: &[u8]) -> bool
+pub fn size_in_range(s: &[u8]) -> bool
     ensures { λ r. ⌜ r ≡ paper.sized (now (s .entry)) ⌝ }
 {
     if s.len() < TRAILER_SIZE {
@@ -77,7 +78,7 @@ pub fn sized(s: &[u8]) -> bool
 }
 
 // 6: whether the version is 1.
-pub fn versioned(s: &[u8]) -> bool
+pub fn version_known(s: &[u8]) -> bool
     requires { ⌜ fields.trailerSize ≤ length (now s) ⌝ }
     ensures { λ r. ⌜ r ≡ paper.versioned (now (s .entry)) ⌝ }
 {
@@ -85,7 +86,7 @@ pub fn versioned(s: &[u8]) -> bool
 }
 
 // 7: whether the name is the roster's.
-pub fn named(roster: &[u8], s: &[u8]) -> bool
+pub fn name_matches(roster: &[u8], s: &[u8]) -> bool
     requires { ⌜ (nameSize ≤ length (now roster)) × (fields.trailerSize ≤ length (now s)) ⌝ }
     ensures { λ r. ⌜ r ≡ paper.named (cluster (now (roster .entry))) (now (s .entry)) ⌝ }
 {
@@ -95,7 +96,7 @@ pub fn named(roster: &[u8], s: &[u8]) -> bool
 }
 
 // 8: whether H is not above 4,096, and L not above 64.
-pub fn counted(s: &[u8]) -> bool
+pub fn counts_in_range(s: &[u8]) -> bool
     requires { ⌜ fields.trailerSize ≤ length (now s) ⌝ }
     ensures { λ r. ⌜ r ≡ paper.counted (now (s .entry)) ⌝ }
 {

@@ -1,5 +1,5 @@
-// What each service promises, promised again by a function that does nothing but call it: a clause that a service no
-// longer has, or that says less, is refused here. Nothing calls these functions.
+// What each service promises, promised again by a function that does nothing but call it: a clause that a
+// service no longer has, or that says less, is refused here. Nothing calls these functions.
 ghost use mathlib.Core.Path.{_≡_};
 ghost use Rattle.sha256.specs.Service.{digestNumber, digestAfter};
 ghost use Rattle.lm_answer.specs.Number.{answerNumber};
@@ -15,16 +15,23 @@ pub fn sha256(message: &[u8], digest: &mut [u8; 32]) -> u32
 }
 
 pub fn lms_check(key: &[u8], message: &[u8], signature: &[u8]) -> u32
-    ensures { λ r. ⌜ r ≡ answerNumber (answer (now (key .entry)) (now (message .entry)) (now (signature .entry))) ⌝ }
+    ensures { λ r. ⌜ r ≡ answerNumber (answer (now (key .entry)) (now (message .entry))
+        (now (signature .entry))) ⌝ }
 {
     hirelog::hirelog_lms_check(key, message, signature)
 }
 
 pub fn audit(roster: &[u8], first: &[u8], second: &[u8], report: &mut [u8]) -> u32
-    ensures number { λ r. ⌜ r ≡ auditNumber (now (roster .entry)) (now (first .entry)) (now (second .entry)) (now (report .entry)) ⌝ }
-    ensures bytes { λ _. ⌜ now (report .exit) ≡ reportAfter (now (roster .entry)) (now (first .entry)) (now (second .entry)) (now (report .entry)) ⌝ }
-    ensures naming { λ r. ⌜ Naming (now (roster .entry)) (now (first .entry)) (now (second .entry)) r (now (report .exit)) ⌝ }
-    ensures fairness { λ r. ⌜ Fairness (now (roster .entry)) (now (first .entry)) (now (second .entry)) r (now (report .exit)) ⌝ }
+    ensures number { λ r. ⌜ r
+        ≡ auditNumber (now (roster .entry)) (now (first .entry)) (now (second .entry))
+        (now (report .entry)) ⌝ }
+    ensures bytes { λ _. ⌜ now (report .exit)
+        ≡ reportAfter (now (roster .entry)) (now (first .entry)) (now (second .entry))
+        (now (report .entry)) ⌝ }
+    ensures naming { λ r. ⌜ Naming (now (roster .entry)) (now (first .entry)) (now (second .entry)) r
+        (now (report .exit)) ⌝ }
+    ensures fairness { λ r. ⌜ Fairness (now (roster .entry)) (now (first .entry)) (now (second .entry)) r
+        (now (report .exit)) ⌝ }
 {
     hirelog::hirelog_audit(roster, first, second, report)
 }

@@ -1,8 +1,10 @@
-// Prints for sample submissions, one for each number from 5 to 15 and two for 0, the number that validation gives them against a sample roster.
-// The files are made by tests/auditor (make_cases, folder numbers); the file `stdout` has the numbers that its auditor gives.
+// Prints for sample submissions, one for each number from 5 to 15 and two for 0, the number that validation
+// gives them against a sample roster. The files are made by tests/auditor (make_cases, folder numbers); the
+// file `stdout` has the numbers that its auditor gives.
 use libc::STDOUT_FILENO;
 
-// Prints a submission's name and number as a line. A file that cannot be read whole is an error in the output.
+// Prints a submission's name and number as a line. A file that cannot be read whole is an error in the
+// output.
 fn print_number(roster: &[u8], name: &[u8]) {
     let mut submission = [0u8; 16384];
     let n = test_vectors::load(name, &mut submission);

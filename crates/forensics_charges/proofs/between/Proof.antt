@@ -17,7 +17,7 @@ returns c =
     let votes = c .before .before .before .charged .ensures ∙ ap (λ (b : Bool). lowest (charge b 1 (a .x .term)))
     (c .before .before .before .before .two-candidates .ensures) in
     let stamps = c .before .charged2 .ensures ∙ ap (λ (b : Bool). lowest (charge b 2 (a .x .term))) (c .before .before .two-logs .ensures) in
-    joined _ _ votes stamps (c .lower .ensures)
+    joined _ _ votes stamps (c .lower-row .ensures)
 
 pub between-spec : {M : Type 1} → statement M
 between-spec =

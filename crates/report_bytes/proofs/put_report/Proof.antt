@@ -12,7 +12,7 @@ returns c =
     let start = c .before .before .before .before .before .before .before .before .before .before in
     let a = start .args in
     let nine : length (a .rows) ≡ 9 = search needs in
-    let mask = c .before .before .before .before .before .before .before .named in
+    let mask = c .before .before .before .before .before .before .before .named-mask in
     let head = c .before .before .before .before .before .before .put-head in
     let body = c .before .before .put-rows in
     report-parts (a .out .now) (head .last .0) (body .last .0) (a .number) (a .place) (a .fork) (mask .result) (a .rows)

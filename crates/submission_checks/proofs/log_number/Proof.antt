@@ -10,14 +10,14 @@ use Rattle.submission_checks.proofs.Facts.{asked-ordered, asked-count}
 use Rattle.submission_checks.proofs.log_number.Statement.{statement}
 use Rattle.submission_checks.proofs.log_number.Tie as tie
 
-ordered-requires : tie.Need-ordered-requires
-ordered-requires c κs = rw (c .record-count .ensures .0) (records-in _ _ _ (c .before .before .before .pre))
+terms-in-order-requires : tie.Need-terms-in-order-requires
+terms-in-order-requires c κs = rw (c .record-count .ensures .0) (records-in _ _ _ (c .before .before .before .pre))
 
 returns : tie.Need-returns
 unfolding logChecks
 returns c =
     let a = c .before .before .before .before .before .args in
-    let rising = asked-ordered (a .size) (a .s .now) (c .before .before .record-count .ensures .0) (c .before .ordered .ensures) in
+    let rising = asked-ordered (a .size) (a .s .now) (c .before .before .record-count .ensures .0) (c .before .terms-in-order .ensures) in
     sym (refused 11 _ _ (sym rising ∙ not-true _ (c .if1 .taken)))
 
 run-count-requires : tie.Need-run-count-requires
@@ -27,7 +27,7 @@ returns-2 : tie.Need-returns-2
 unfolding logChecks
 returns-2 c =
     let a = c .before .before .before .before .before .before .before .before .args in
-    let rising = asked-ordered (a .size) (a .s .now) (c .before .before .before .before .before .record-count .ensures .0) (c .before .before .before .before .ordered .ensures) in
+    let rising = asked-ordered (a .size) (a .s .now) (c .before .before .before .before .before .record-count .ensures .0) (c .before .before .before .before .terms-in-order .ensures) in
     let count = asked-count (a .size) (a .s .now) (c .before .before .before .before .before .record-count .ensures .0) (c .before .before .leader-count .ensures .0) (c .before .run-count .ensures) in
     sym (passed 11 _ _ (sym rising ∙ not-false _ (c .before .before .before .if1 .left)) ∙ refused 12 _ _ (count ∙ ne-eqb _ _ (c .if2 .taken)))
 
@@ -41,7 +41,7 @@ returns-3 : tie.Need-returns-3
 unfolding logChecks
 returns-3 c =
     let a = c .before .before .before .before .before .before .before .before .before .args in
-    let rising = asked-ordered (a .size) (a .s .now) (c .before .before .before .before .before .before .record-count .ensures .0) (c .before .before .before .before .before .ordered .ensures) in
+    let rising = asked-ordered (a .size) (a .s .now) (c .before .before .before .before .before .before .record-count .ensures .0) (c .before .before .before .before .before .terms-in-order .ensures) in
     let count = asked-count (a .size) (a .s .now) (c .before .before .before .before .before .before .record-count .ensures .0) (c .before .before .before .leader-count .ensures .0) (c .before .before .run-count .ensures) in
     c .leader-number .ensures
     ∙ sym (passed 11 _ _ (sym rising ∙ not-false _ (c .before .before .before .before .if1 .left)) ∙ passed 12 _ _ (count ∙ eq-eqb _ _ (c .before .if2 .left)))
@@ -51,7 +51,7 @@ log-number-spec =
     tie.close
     (tie.spec
     (λ c κs. c .before .before .pre .bounds .long)
-    ordered-requires
+    terms-in-order-requires
     returns
     (λ c κs. c .before .before .before .before .before .pre .bounds .long)
     run-count-requires

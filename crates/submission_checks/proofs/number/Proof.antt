@@ -14,49 +14,49 @@ use Rattle.submission_checks.proofs.number.Tie as tie
 
 returns : tie.Need-returns
 unfolding validate
-returns c = sym (refused 5 _ _ (sym (c .before .sized .ensures) ∙ not-true _ (c .if1 .taken)))
+returns c = sym (refused 5 _ _ (sym (c .before .size-in-range .ensures) ∙ not-true _ (c .if1 .taken)))
 
-versioned-requires : tie.Need-versioned-requires
-versioned-requires c κs = sized-long _ (sym (c .before .sized .ensures) ∙ not-false _ (c .if1 .left))
+version-known-requires : tie.Need-version-known-requires
+version-known-requires c κs = sized-long _ (sym (c .before .size-in-range .ensures) ∙ not-false _ (c .if1 .left))
 
 returns-2 : tie.Need-returns-2
 unfolding validate
 returns-2 c =
-    sym (passed 5 _ _ (sym (c .before .before .before .sized .ensures) ∙ not-false _ (c .before .before .if1 .left)) ∙ refused 6 _ _ (sym (c .before .versioned .ensures) ∙ not-true _ (c .if2 .taken)))
+    sym (passed 5 _ _ (sym (c .before .before .before .size-in-range .ensures) ∙ not-false _ (c .before .before .if1 .left)) ∙ refused 6 _ _ (sym (c .before .version-known .ensures) ∙ not-true _ (c .if2 .taken)))
 
-named-requires : tie.Need-named-requires
-named-requires c κs =
+name-matches-requires : tie.Need-name-matches-requires
+name-matches-requires c κs =
     let z = sizes _ (c .before .before .before .before .before .before .pre) in
-    (omega arith, sized-long _ (sym (c .before .before .before .sized .ensures) ∙ not-false _ (c .before .before .if1 .left)))
+    (omega arith, sized-long _ (sym (c .before .before .before .size-in-range .ensures) ∙ not-false _ (c .before .before .if1 .left)))
 
 returns-3 : tie.Need-returns-3
 unfolding validate
 returns-3 c =
-    sym (passed 5 _ _ (sym (c .before .before .before .before .before .sized .ensures) ∙ not-false _ (c .before .before .before .before .if1 .left)) ∙ passed 6 _ _ (sym (c .before .before .before .versioned .ensures) ∙ not-false _ (c .before .before .if2 .left))
-    ∙ refused 7 _ _ (sym (c .before .named .ensures) ∙ not-true _ (c .if3 .taken)))
+    sym (passed 5 _ _ (sym (c .before .before .before .before .before .size-in-range .ensures) ∙ not-false _ (c .before .before .before .before .if1 .left)) ∙ passed 6 _ _ (sym (c .before .before .before .version-known .ensures) ∙ not-false _ (c .before .before .if2 .left))
+    ∙ refused 7 _ _ (sym (c .before .name-matches .ensures) ∙ not-true _ (c .if3 .taken)))
 
-counted-requires : tie.Need-counted-requires
-counted-requires c κs = sized-long _ (sym (c .before .before .before .before .before .sized .ensures) ∙ not-false _ (c .before .before .before .before .if1 .left))
+counts-in-range-requires : tie.Need-counts-in-range-requires
+counts-in-range-requires c κs = sized-long _ (sym (c .before .before .before .before .before .size-in-range .ensures) ∙ not-false _ (c .before .before .before .before .if1 .left))
 
 returns-4 : tie.Need-returns-4
 unfolding validate
 returns-4 c =
-    sym (passed 5 _ _ (sym (c .before .before .before .before .before .before .before .sized .ensures) ∙ not-false _ (c .before .before .before .before .before .before .if1 .left)) ∙ passed 6 _ _ (sym (c .before .before .before .before .before .versioned .ensures) ∙ not-false _ (c .before .before .before .before .if2 .left))
-    ∙ passed 7 _ _ (sym (c .before .before .before .named .ensures) ∙ not-false _ (c .before .before .if3 .left)) ∙ refused 8 _ _ (sym (c .before .counted .ensures) ∙ not-true _ (c .if4 .taken)))
+    sym (passed 5 _ _ (sym (c .before .before .before .before .before .before .before .size-in-range .ensures) ∙ not-false _ (c .before .before .before .before .before .before .if1 .left)) ∙ passed 6 _ _ (sym (c .before .before .before .before .before .version-known .ensures) ∙ not-false _ (c .before .before .before .before .if2 .left))
+    ∙ passed 7 _ _ (sym (c .before .before .before .name-matches .ensures) ∙ not-false _ (c .before .before .if3 .left)) ∙ refused 8 _ _ (sym (c .before .counts-in-range .ensures) ∙ not-true _ (c .if4 .taken)))
 
 part-number-requires : tie.Need-part-number-requires
 part-number-requires c κs =
     let p = c .before .before .before .before .before .before .before .before .before .before .before .pre in (
       p,
       rw (c .signature-size .ensures .0)
-          (bounds _ _ (sym (c .before .before .before .before .before .before .before .before .sized .ensures) ∙ not-false _ (c .before .before .before .before .before .before .before .if1 .left)) (sym (c .before .before .counted .ensures) ∙ not-false _ (c .before .if4 .left)) (signature-bounds _ p .1)),
+          (bounds _ _ (sym (c .before .before .before .before .before .before .before .before .size-in-range .ensures) ∙ not-false _ (c .before .before .before .before .before .before .before .if1 .left)) (sym (c .before .before .counts-in-range .ensures) ∙ not-false _ (c .before .if4 .left)) (signature-bounds _ p .1)),
     )
 
 returns-5 : tie.Need-returns-5
 returns-5 c =
     trailer-passed (c .before .before .before .before .before .before .before .before .before .before .before .before .args .roster .now) (c .before .before .before .before .before .before .before .before .before .before .before .before .args .s .now)
-    (sym (c .before .before .before .before .before .before .before .before .before .sized .ensures) ∙ not-false _ (c .before .before .before .before .before .before .before .before .if1 .left)) (sym (c .before .before .before .before .before .before .before .versioned .ensures) ∙ not-false _ (c .before .before .before .before .before .before .if2 .left))
-    (sym (c .before .before .before .before .before .named .ensures) ∙ not-false _ (c .before .before .before .before .if3 .left)) (sym (c .before .before .before .counted .ensures) ∙ not-false _ (c .before .before .if4 .left))
+    (sym (c .before .before .before .before .before .before .before .before .before .size-in-range .ensures) ∙ not-false _ (c .before .before .before .before .before .before .before .before .if1 .left)) (sym (c .before .before .before .before .before .before .before .version-known .ensures) ∙ not-false _ (c .before .before .before .before .before .before .if2 .left))
+    (sym (c .before .before .before .before .before .name-matches .ensures) ∙ not-false _ (c .before .before .before .before .if3 .left)) (sym (c .before .before .before .counts-in-range .ensures) ∙ not-false _ (c .before .before .if4 .left))
     (rw (c .before .signature-size .ensures .0) at (c .part-number .ensures))
 
 pub number-spec : {M : Type 1} → statement M
@@ -65,11 +65,11 @@ number-spec =
     (tie.spec
     (λ c κs. search needs)
     returns
-    versioned-requires
+    version-known-requires
     returns-2
-    named-requires
+    name-matches-requires
     returns-3
-    counted-requires
+    counts-in-range-requires
     returns-4
     (λ c κs. let z = sizes _ (c .before .before .before .before .before .before .before .before .before .before .pre) in omega arith)
     part-number-requires

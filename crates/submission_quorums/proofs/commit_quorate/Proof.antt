@@ -14,7 +14,7 @@ returns c =
 returns-2 : tie.Need-returns-2
 returns-2 c =
     let a = c .before .before .before .before .before .before .args in
-    c .quorate .ensures ∙ commit-signers (a .size) (a .s .now) (a .n) (sym (c .before .before .before .before .commit-part .ensures) ∙ c .before .before .commit .given .1)
+    c .mask-quorate .ensures ∙ commit-signers (a .size) (a .s .now) (a .n) (sym (c .before .before .before .before .commit-part .ensures) ∙ c .before .before .commit .given .1)
 
 pub commit-quorate-spec : {M : Type 1} → statement M
 commit-quorate-spec =

@@ -43,8 +43,8 @@ returns c =
     never-refused (a .size) (a .s .now) (a .n) (l .left) (l .at) (a .end) (l .inv .1) (omega arith) (l .inv .0)
     (sym (c .before .before .read .ensures .0) ∙ c .enum-told .given .1)
 
-quorate-requires : tie.Need-quorate-requires Inv-loop μ-loop
-quorate-requires c κs = (c .before .before .before .before .before .before .before .pre .0, c .before .before .before .before .before .before .before .pre .1)
+mask-quorate-requires : tie.Need-mask-quorate-requires Inv-loop μ-loop
+mask-quorate-requires c κs = (c .before .before .before .before .before .before .before .pre .0, c .before .before .before .before .before .before .before .pre .1)
 
 returns-2 : tie.Need-returns-2 Inv-loop μ-loop
 returns-2 c =
@@ -52,7 +52,7 @@ returns-2 c =
     let l = c .before .before .before .before .before .before .before .loop in
     too-few (a .size) (a .s .now) (a .n) (l .left) (l .at) (a .end) (l .inv .1) (omega arith) (l .inv .0)
     (sym (c .before .before .before .before .before .read .ensures .0) ∙ c .before .before .before .c .given .1)
-    (c .before .quorate .ensures)
+    (c .before .mask-quorate .ensures)
     (c .if1 .taken)
 
 sub-left : tie.Need-sub-left Inv-loop μ-loop
@@ -67,7 +67,7 @@ loop-again c =
     let l = c .before .before .before .before .before .before .before .loop in
     enough (a .size) (a .s .now) (a .n) (l .left) (l .at) (a .end) (l .inv .1) (omega arith) (l .inv .0)
     (sym (c .before .before .before .before .before .read .ensures .0) ∙ c .before .before .before .c .given .1)
-    (c .before .quorate .ensures)
+    (c .before .mask-quorate .ensures)
     (c .if1 .left)
 
 returns-3 : tie.Need-returns-3 Inv-loop μ-loop
@@ -87,7 +87,7 @@ leaders-quorate-spec =
     enum-known-c
     enum-told
     returns
-    quorate-requires
+    mask-quorate-requires
     returns-2
     sub-left
     loop-less

@@ -17,7 +17,7 @@ returns c =
 
 returns-2 : tie.Need-returns-2
 unfolding afterReceipts
-returns-2 c = rw (c .before .enum-told .given .1) (c .unnamed .ensures)
+returns-2 c = rw (c .before .enum-told .given .1) (c .unnamed-row .ensures)
 
 pub after-receipts-spec : {M : Type 1} → statement M
 after-receipts-spec =

@@ -19,8 +19,8 @@ returns : tie.Need-returns
 unfolding ruledBy
 returns c =
     joined _ _
-    (joined _ _ (c .before .before .before .before .among-terms .ensures) (c .before .before .before .after-receipts .ensures) (c .before .lower .ensures))
-    (c .before .before .after-receipts2 .ensures) (c .lower2 .ensures)
+    (joined _ _ (c .before .before .before .before .among-terms .ensures) (c .before .before .before .after-receipts .ensures) (c .before .lower-row .ensures))
+    (c .before .before .after-receipts2 .ensures) (c .lower-row2 .ensures)
 
 pub row-spec : {M : Type 1} → statement M
 row-spec =

@@ -44,13 +44,13 @@ u16-at-requires : tie.Need-u16-at-requires
 unfolding commitEnd
 u16-at-requires c κs = omega arith
 
-add-all-good : tie.Need-add-all-good
+add-certificate-signatures-good : tie.Need-add-certificate-signatures-good
 unfolding commitEnd
-add-all-good c = omega arith
+add-certificate-signatures-good c = omega arith
 
-all-good-requires : tie.Need-all-good-requires
+certificate-signatures-good-requires : tie.Need-certificate-signatures-good-requires
 unfolding commitEnd signersAt
-all-good-requires c κs =
+certificate-signatures-good-requires c κs =
     let start = c .before .before .before .before .before .before .before .before in
     let mask = c .u16-at .ensures .0 in
     let long : length (c .before .before .place-statement .result) ≤ limit = search needs in
@@ -65,7 +65,7 @@ returns c =
     let s = a .s .now in
     let index = c .before .before .before .before .before .before .u32-at .ensures .0 in
     let term = c .before .before .before .before .before .last-term .ensures ∙ ap (λ (i : ℕ). lastTerm (recordsOf 4 i s)) index in
-    c .all-good .ensures
+    c .certificate-signatures-good .ensures
     ∙ ap₂ (λ (m : List ℕ) (mask : ℕ). goodAll roster m (a .size) (replicasOf mask) (drop (a .at + 6) s))
     (c .before .before .before .place-statement .ensures
     ∙ ap₂ (λ (t i : ℕ). 2 ∷ cluster roster ++ be 4 t ++ be 4 i ++ bytesOf (a .pointer)) term index) (c .before .u16-at .ensures .0)
@@ -82,6 +82,6 @@ receipts-good-spec =
     (λ c. search needs)
     add-u16-at
     u16-at-requires
-    add-all-good
-    all-good-requires
+    add-certificate-signatures-good
+    certificate-signatures-good-requires
     returns)

@@ -31,8 +31,8 @@ u16-at-requires : tie.Need-u16-at-requires
 unfolding ballotSize
 u16-at-requires c κs = omega arith
 
-genuine-requires : tie.Need-genuine-requires
-genuine-requires c κs =
+signature-genuine-requires : tie.Need-signature-genuine-requires
+signature-genuine-requires c κs =
     let start = c .before .before .before .before .before .before .before .before in
     let candidate = c .before .before .u16-at .ensures .0 in
     let long : length (c .before .before .before .place-statement .result) ≤ limit = search needs in
@@ -43,7 +43,7 @@ unfolding cluster
 returns c =
     let a = c .before .before .before .before .before .before .before .before .before .args in
     let count : a .stamp + a .size - a .stamp ≡ a .size = omega arith in
-    c .genuine .ensures
+    c .signature-genuine .ensures
     ∙ rw (
       c .before .before .before .u16-at .ensures .0,
       c .before .before .before .before .place-statement .ensures,
@@ -65,5 +65,5 @@ stamp-good-spec =
     (λ c. search needs)
     (λ c. search needs)
     (λ c. search needs)
-    genuine-requires
+    signature-genuine-requires
     returns)

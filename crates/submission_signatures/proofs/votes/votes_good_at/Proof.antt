@@ -37,20 +37,20 @@ vote-statement-requires c κs =
     let count : at + 46 - at ≡ 46 = omega arith in
     (name-length (start .args .roster .now) (start .pre .0), rw count (length-take-le 46 (drop at (start .args .s .now)) (rw length-drop (omega arith))))
 
-slice-aggregate-all-good : tie.Need-slice-aggregate-all-good
-slice-aggregate-all-good c = search needs
+slice-aggregate-certificate-signatures-good : tie.Need-slice-aggregate-certificate-signatures-good
+slice-aggregate-certificate-signatures-good c = search needs
 
 u16-at-requires : tie.Need-u16-at-requires
 unfolding certificateEnd ballotSize signersAt
 u16-at-requires c κs = omega arith
 
-add-all-good : tie.Need-add-all-good
+add-certificate-signatures-good : tie.Need-add-certificate-signatures-good
 unfolding certificateEnd ballotSize signersAt
-add-all-good c = omega arith
+add-certificate-signatures-good c = omega arith
 
-all-good-requires : tie.Need-all-good-requires
+certificate-signatures-good-requires : tie.Need-certificate-signatures-good-requires
 unfolding certificateEnd ballotSize signersAt
-all-good-requires c κs =
+certificate-signatures-good-requires c κs =
     let start = c .before .before .before .before .before .before .before in
     let a = start .args in
     let mask = c .u16-at .ensures .0 in
@@ -66,7 +66,7 @@ returns c =
     let s = a .s .now in
     let each : (i : ℕ) → getD s i 0 < 256 = λ i. c .before .before .before .before .before .before .shared-slice-known2 .given i .fits in
     let count : a .at + 46 - a .at ≡ 46 = omega arith in
-    c .all-good .ensures
+    c .certificate-signatures-good .ensures
     ∙ ap₂ (λ (m : List ℕ) (mask : ℕ). goodAll roster m (a .size) (replicasOf mask) (drop (a .at + 46 + 2) s))
     (c .before .before .before .vote-statement .ensures ∙ ap (λ (n : ℕ). 3 ∷ cluster roster ++ take n (drop (a .at) s)) count) (c .before .u16-at .ensures .0)
     ∙ vote-slots roster s (a .size) (a .at) (bytes-each s each) (omega arith)
@@ -81,8 +81,8 @@ votes-good-at-spec =
     (λ c. search needs)
     part-vote-statement-end
     vote-statement-requires
-    slice-aggregate-all-good
+    slice-aggregate-certificate-signatures-good
     u16-at-requires
-    add-all-good
-    all-good-requires
+    add-certificate-signatures-good
+    certificate-signatures-good-requires
     returns)

@@ -1,0 +1,119 @@
+-- One certificate and one term a turn: those that are left give what all of them give.
+-- Assumes nothing.
+use mathlib.Core.Path.{_≡_, sym, ap, _∙_}
+use mathlib.Core.List.{List, []}
+use Prim.Native.Nat.{ℕ, _-_, _≤_, _<_}
+use native.Mathlib.Nat.{le-trans}
+use native.Mathlib.Omega.{arith}
+use lib.ListN.{length, drop}
+use Rattle.sha256.specs.Sha256.{bytesOf}
+use Rattle.refusal.specs.Checks.{every}
+use Rattle.log_chain.specs.Log.{version1, pointer}
+use Rattle.submission.specs.View.{runs, leadsOf}
+use Rattle.submission.specs.Reading.{recordSize, recordsOf, certificates, certificatesEnd}
+use Rattle.log_terms.specs.Later.{runsLeft}
+use Rattle.submission.specs.Validate.{leading}
+use Rattle.submission.proofs.Certificates.{certificate-head, first-inside, rest-inside}
+use Rattle.submission_leaders.proofs.LeadWalk.{led, lead-fails, lead-next}
+use Rattle.log_terms.proofs.Walks.{runs-all, runs-some}
+use Rattle.submission_leaders.proofs.leaders_match_log.Statement.{statement}
+use Rattle.submission_leaders.proofs.leaders_match_log.Tie as tie
+
+abbrev Inv-loop : tie.InvT-loop
+Inv-loop s n size records leaders at left₀ place₀ i₀ before₀ left place i before =
+    (left ≤ leaders) × (i ≤ records) × (left ≡ length (runsLeft 4 records i s)) × (certificatesEnd 4 size s left place ≤ length s)
+    × (bytesOf before ≡ pointer (version1 []) (recordsOf 4 i s))
+    × ((name : List ℕ) (stamps : List (List ℕ)) → length stamps ≡ leaders
+    → every (leading (version1 name) n) (leadsOf (certificates 4 size s left place) (runsLeft 4 records i s) (drop (leaders - left) stamps))
+    ≡ every (leading (version1 name) n) (leadsOf (certificates 4 size s leaders at) (runs (recordsOf 4 records s)) stamps))
+
+abbrev μ-loop : tie.MeasureT-loop
+μ-loop s n size records leaders at left₀ place₀ i₀ before₀ left place i before = left
+
+loop-holds : tie.Need-loop-holds Inv-loop μ-loop
+unfolding recordsOf
+loop-holds c =
+    let start = c .before .before in
+    let a = start .args in
+    let all = runs-all 4 (a .records) (a .s .now) in
+    let none : a .leaders - a .leaders ≡ 0 = omega arith in
+    (omega arith, omega arith, start .pre .2 ∙ ap length (sym all), start .pre .3, c .pointer-zero .ensures, (λ name stamps e. rw (none, all)))
+
+next-run-requires : tie.Need-next-run-requires Inv-loop μ-loop
+next-run-requires c κs =
+    let start = c .before .before .before .before in
+    let l = c .before .loop in
+    let a = start .args in
+    (runs-some 4 (a .records) (l .i) (a .s .now) (omega arith), start .pre .0, start .pre .1, l .inv .4)
+
+leading-requires : tie.Need-leading-requires Inv-loop μ-loop
+unfolding recordSize
+leading-requires c κs =
+    let l = c .before .before .loop in
+    let a = c .before .before .before .before .before .args in
+    let s = a .s .now in
+    let inside = first-inside 4 (a .size) s (l .left) (l .place) (omega (arith, c .before .loop-test .taken)) (l .inv .3) in
+    (le-trans (certificate-head 4 (a .size) s (l .place)) inside, omega arith, omega (arith, c .next-run .ensures .1), l .inv .4)
+
+returns : tie.Need-returns Inv-loop μ-loop
+returns c name stamps e =
+    let l = c .before .before .before .before .loop in
+    let a = c .before .before .before .before .before .before .before .args in
+    lead-fails 4 (a .size) (a .s .now) (leading (version1 name) (a .n)) (l .left) (l .place) (runsLeft 4 (a .records) (l .i) (a .s .now)) (a .leaders) stamps
+    (l .inv .5 name stamps e) (omega (arith, c .before .before .before .loop-test .taken)) (l .inv .0) e _ _ (c .before .before .next-run .ensures .3)
+    (c .before .leading .ensures name) (c .if1 .taken)
+
+certificate-end-requires : tie.Need-certificate-end-requires Inv-loop μ-loop
+certificate-end-requires c κs =
+    let l = c .before .before .before .before .loop in
+    let a = c .before .before .before .before .before .before .before .args in
+    first-inside 4 (a .size) (a .s .now) (l .left) (l .place) (omega (arith, c .before .before .before .loop-test .taken)) (l .inv .3)
+
+sub-left : tie.Need-sub-left Inv-loop μ-loop
+sub-left c = omega (arith, c .before .before .before .before .before .loop-test .taken)
+
+loop-less : tie.Need-loop-less Inv-loop μ-loop
+loop-less c = omega (arith, c .before .before .before .before .before .loop-test .taken)
+
+loop-again : tie.Need-loop-again Inv-loop μ-loop
+loop-again c =
+    let l = c .before .before .before .before .before .before .loop in
+    let a = c .before .before .before .before .before .before .before .before .before .args in
+    let s = a .s .now in
+    let more : 0 < l .left = omega (arith, c .before .before .before .before .before .loop-test .taken) in
+    let walked = c .before .before .before .before .next-run .ensures in
+    let place = c .before .certificate-end .ensures in (
+      omega arith,
+      walked .1,
+      omega (arith, l .inv .2, ap length (walked .3)),
+      rw place (rest-inside 4 (a .size) s (l .left) (l .place) more (l .inv .3)),
+      walked .2,
+      (λ name stamps e.
+          rw place
+          (lead-next 4 (a .size) s (leading (version1 name) (a .n)) (l .left) (l .place) (runsLeft 4 (a .records) (l .i) s) (a .leaders) stamps
+          (l .inv .5 name stamps e) more (l .inv .0) e _ _ (walked .3) (c .before .before .before .leading .ensures name) (c .before .before .if1 .left))),
+    )
+
+returns-2 : tie.Need-returns-2 Inv-loop μ-loop
+returns-2 c name stamps e =
+    let l = c .before .loop in
+    let a = c .before .before .before .before .args in
+    led 4 (a .size) (a .s .now) (leading (version1 name) (a .n)) (l .left) (l .place) (runsLeft 4 (a .records) (l .i) (a .s .now)) (a .leaders) stamps
+    (l .inv .5 name stamps e) (omega (arith, c .loop-test .left))
+
+pub leaders-match-log-spec : {M : Type 1} → statement M
+leaders-match-log-spec =
+    tie.close
+    (tie.spec
+    Inv-loop
+    μ-loop
+    (λ c κs. tt)
+    loop-holds
+    next-run-requires
+    leading-requires
+    returns
+    certificate-end-requires
+    sub-left
+    loop-less
+    loop-again
+    returns-2)
