@@ -13,19 +13,19 @@ use Rattle.submission.specs.View.{Commit, View}
 use Rattle.forensics.specs.Findings as forensics
 use Rattle.forensics_charges.specs.declared.Tenure.{Tenure}
 use Rattle.forensics_charges.specs.Rules.{twoCandidates, twoLogs, forgotten}
-use Rattle.forensics_charges.specs.declared.Receipts.{Receipts}
-use Rattle.forensics_charges.specs.declared.Receipts.the-variants.{Given, Absent}
+use Rattle.forensics_charges.specs.declared.Receipt.{Receipt}
 use Rattle.forensics_charges.specs.declared.Row.{Row}
 use Rattle.forensics_charges.specs.declared.Findings.{Findings}
 
 -- ---- the receipts of a submission
 
-unfoldable pub receiptsBy : Option Commit → List Record → Receipts
-receiptsBy none log = Absent
+-- without a commit certificate nobody has given one, and no index is committed
+unfoldable pub receiptsBy : Option Commit → List Record → Receipt
+receiptsBy none log = record { term = 0; index = 0; signers = 0 }
 receiptsBy (some c) log =
-    Given (record { term = lastTerm (take (c .index) log); index = c .index; signers = c .signers })
+    record { term = lastTerm (take (c .index) log); index = c .index; signers = c .signers }
 
-unfoldable pub receipts : View → Receipts
+unfoldable pub receipts : View → Receipt
 receipts v = receiptsBy (v .commit) (v .log)
 
 -- ---- the charges of the rules, for replica k
@@ -40,12 +40,11 @@ module _ (k : ℕ) where
   amongTerms difference xs ys = flatMap (λ x. flatMap (between difference x) ys) xs
 
   -- the charges from the receipts of the one and the terms of the other
-  unfoldable pub afterReceipts : ℕ → Receipts → List Tenure → List Charge
-  afterReceipts rule Absent ys = []
-  afterReceipts rule (Given r) ys = flatMap (λ y. charge (forgotten k r y) rule (y .term)) ys
+  unfoldable pub afterReceipts : ℕ → Receipt → List Tenure → List Charge
+  afterReceipts rule r ys = flatMap (λ y. charge (forgotten k r y) rule (y .term)) ys
 
 -- all of them, from two submissions whose logs differ first at an index
-unfoldable pub ruledBy : ℕ → ℕ → List Tenure → List Tenure → Receipts → Receipts → List Charge
+unfoldable pub ruledBy : ℕ → ℕ → List Tenure → List Tenure → Receipt → Receipt → List Charge
 ruledBy k difference xs ys first second =
     amongTerms k difference xs ys ++ afterReceipts k 3 first ys ++ afterReceipts k 4 second xs
 
@@ -57,10 +56,8 @@ rowsBy row (suc count) k = row k ∷ rowsBy row count (suc k)
 -- ---- the fork
 
 -- from the first difference of the logs and the receipts of both: an index that both have committed
-unfoldable pub forkOf : ℕ → Receipts → Receipts → ℕ
-forkOf difference Absent second = 0
-forkOf difference (Given x) Absent = 0
-forkOf difference (Given x) (Given y) =
+unfoldable pub forkOf : ℕ → Receipt → Receipt → ℕ
+forkOf difference x y =
     cond (all (ltb 0 difference ∷ leb difference (x .index) ∷ leb difference (y .index) ∷ [])) difference 0
 
 -- ---- the lowest charge

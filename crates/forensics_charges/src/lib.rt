@@ -21,18 +21,12 @@ pub struct Tenure {
     pub end: u32,
 }
 
-// The receipts of a commit certificate: the term and the index of the record, and the replicas that gave
-// them.
+// The receipts of a submission: the term and the index of the record, and the replicas that gave them. Without
+// a commit certificate all are 0: nobody has given one.
 pub struct Receipt {
     pub term: u32,
     pub index: u32,
     pub signers: u16,
-}
-
-// The receipts of a submission, where it has a commit certificate.
-pub enum Receipts {
-    Given(Receipt),
-    Absent,
 }
 
 // A row of the report: the rule and the term, both 0 for a replica that is not named.

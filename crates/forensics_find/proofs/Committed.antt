@@ -14,17 +14,17 @@ use Rattle.submission.specs.Reading.{recordSize, recordsOf, commitAt, view, lai
 use Rattle.submission.specs.Validate.{within}
 use Rattle.submission.proofs.Fits.{length-records}
 use Rattle.submission_parts.specs.declared.Commit.{Commit}
-use Rattle.submission_parts.specs.declared.CommitPart.the-variants.{Found, Absent as NoPart}
+use Rattle.submission_parts.specs.declared.CommitPart.the-variants.{Found, Absent}
 use Rattle.submission_parts.specs.Reader.{commitNumbersAt}
 use Rattle.submission_parts.specs.Commits.{commitPart}
 use Rattle.submission_parts.proofs.Commits.{absent-says, found-says}
 use Rattle.submission_parts.proofs.Inside.{records-inside}
 use Rattle.log_terms.proofs.Records.{take-records}
-use Rattle.forensics_charges.specs.declared.Receipts.the-variants.{Given, Absent}
+use Rattle.forensics_charges.specs.declared.Receipt.{Receipt}
 use Rattle.forensics_charges.specs.Charges.{receiptsBy, receipts}
 
 module _ (S : ℕ) (s : List ℕ) where
-  pub no-receipts : commitPart S s ≡ NoPart → Absent ≡ receipts (view 4 S s)
+  pub no-receipts : commitPart S s ≡ Absent → _≡_ {A = Receipt} (record { term = 0; index = 0; signers = 0 }) (receipts (view 4 S s))
   unfolding receipts receiptsBy view
   no-receipts e = rw (absent-says S s e)
 
@@ -41,7 +41,7 @@ module _ (S : ℕ) (s : List ℕ) where
         rw (found-says S s e .0) (omega (arith, index-inside, records-inside S s laid))
 
     pub some-receipts : {term : ℕ} → term ≡ lastTerm (recordsOf 4 (c .index) s)
-        → Given (record { term = term; index = c .index; signers = c .signers }) ≡ receipts (view 4 S s)
+        → _≡_ {A = Receipt} (record { term = term; index = c .index; signers = c .signers }) (receipts (view 4 S s))
     unfolding receipts receiptsBy view commitNumbersAt
     some-receipts h =
         let says = found-says S s e in

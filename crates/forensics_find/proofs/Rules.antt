@@ -16,6 +16,7 @@ use Rattle.words.proofs.Members.{joined-empty}
 use Rattle.refusal.specs.Checks.{all}
 use Rattle.refusal.proofs.Laws.{all-cons, every-mem}
 use Rattle.roster.specs.Masks.{signer}
+use Rattle.roster.proofs.Masks.{signer-none}
 use Rattle.log_chain.specs.Log.{Form, Record, lastTerm}
 use Rattle.log_chain.specs.Claim.{Claim}
 use Rattle.replica.specs.Charges.{Charge, charge, clash, agree, twoVotes, twoStamps, staleVote}
@@ -25,6 +26,7 @@ use Rattle.submission.proofs.Accepted.{Sound}
 use Rattle.submission.proofs.Runs.{run-begins}
 use Rattle.forensics.specs.Findings.{says, charges, lowest, differAt}
 use Rattle.forensics_charges.specs.declared.Receipt.{Receipt}
+use Rattle.forensics_charges.specs.declared.Tenure.{Tenure}
 use Rattle.forensics_charges.specs.Rules.{twoCandidates, twoLogs, forgotten}
 use Rattle.forensics_charges.specs.Charges.{receiptsBy, receipts, between, amongTerms, afterReceipts, least, ruledBy}
 use Rattle.forensics_find.proofs.Views.{tenure, tenures, ruled}
@@ -52,6 +54,15 @@ tests-swap : (p q : Bool) (xs : List Charge) → cond p (cond q xs []) [] ≡ co
 tests-swap true q xs = refl
 tests-swap false true xs = refl
 tests-swap false false xs = refl
+
+-- nobody is charged where nobody gave a receipt
+none-charged : (k rule : ℕ) (y : Tenure) → charge (forgotten k (record { term = 0; index = 0; signers = 0 }) y) rule (y .term) ≡ []
+unfolding forgotten charge all
+none-charged k rule y = rw (signer-none k)
+
+nobody-gave : (k rule : ℕ) (ys : List Tenure) → afterReceipts k rule (record { term = 0; index = 0; signers = 0 }) ys ≡ []
+unfolding afterReceipts
+nobody-gave k rule ys = joined-empty _ ys (λ y m. none-charged k rule y)
 
 -- two tests before two
 charge-after : (p q b c : Bool) (rule term : ℕ)
@@ -157,7 +168,7 @@ module _ (k : ℕ) where
   given-ruled : (o : Option Commit) (log : List Record) (ms : List Lead) → within o (length log) ≡ true
       → pairs (receiptBy k o log) (flatMap (voteBy k) ms) ≡ afterReceipts k 3 (receiptsBy o log) (map tenure ms)
   unfolding receiptBy receiptsBy afterReceipts voteBy pairs flatMap clash numbers
-  given-ruled none log ms e = refl
+  given-ruled none log ms e = sym (nobody-gave k 3 (map tenure ms))
   given-ruled (some c) log ms e =
       said-left (voter k) vote ms (signer (c .signers) k) (receipt c log)
       ∙ over-same _ _ ms (λ y m. stale-pair c log (commit-within c log e) 3 y) ∙ sym (over-map _ tenure ms)
@@ -165,7 +176,7 @@ module _ (k : ℕ) where
   votes-given : (o : Option Commit) (log : List Record) (ms : List Lead) → within o (length log) ≡ true
       → pairs (flatMap (voteBy k) ms) (receiptBy k o log) ≡ afterReceipts k 4 (receiptsBy o log) (map tenure ms)
   unfolding receiptBy receiptsBy afterReceipts voteBy pairs flatMap clash numbers
-  votes-given none log ms e = joined-empty _ (flatMap (voteBy k) ms) (λ d m. refl)
+  votes-given none log ms e = joined-empty _ (flatMap (voteBy k) ms) (λ d m. refl) ∙ sym (nobody-gave k 4 (map tenure ms))
   votes-given (some c) log ms e =
       said-right (voter k) vote ms (signer (c .signers) k) (receipt c log)
       ∙ over-same _ _ ms (λ y m.

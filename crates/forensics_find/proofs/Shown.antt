@@ -18,7 +18,7 @@ use Rattle.submission.proofs.Accepted.{Sound, validated}
 use Rattle.forensics.specs.Findings.{differAt, fork, charges, lowest, findings}
 use Rattle.submission_parts.specs.Parts.{Bounds}
 use Rattle.submission_parts.proofs.Inside.{bounds}
-use Rattle.forensics_charges.specs.declared.Receipts.{Receipts}
+use Rattle.forensics_charges.specs.declared.Receipt.{Receipt}
 use Rattle.forensics_charges.specs.declared.Row.{Row}
 use Rattle.forensics_charges.specs.Charges.{receipts, ruledBy, rowsBy, forkOf, chargeOf, findingsOf}
 use Rattle.forensics_find.proofs.Views.{ruled}
@@ -32,7 +32,7 @@ use Rattle.forensics_find.proofs.Rules.{rows-ruled}
 -- ---- the fork and the rows that were read
 
 module _ (S : ℕ) (a b : List ℕ) where
-  pub read-says : {m n d : ℕ} {first second : Receipts} (fork : ℕ) (rows : List Row) → d ≡ differAt 1 (recordsOf 4 m a) (recordsOf 4 n b)
+  pub read-says : {m n d : ℕ} {first second : Receipt} (fork : ℕ) (rows : List Row) → d ≡ differAt 1 (recordsOf 4 m a) (recordsOf 4 n b)
       → m ≡ recordCount a → n ≡ recordCount b → first ≡ receipts (view 4 S a) → second ≡ receipts (view 4 S b)
       → fork ≡ forkOf d first second
       → map chargeOf rows ≡ rowsBy (λ k. lowest (ruledBy k d (tenuresOf S a) (tenuresOf S b) first second)) 9 1

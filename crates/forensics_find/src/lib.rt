@@ -10,25 +10,19 @@ ghost use Rattle.submission_parts.specs.Parts.{Bounds};
 ghost use Rattle.forensics_charges.specs.Charges as inner;
 ghost use Rattle.forensics_find.specs.Read.{read};
 use forensics_charges::Findings;
-use forensics_charges::Receipts;
+use forensics_charges::Receipt;
 
 pub mod rows;
 pub mod tenures;
 
 // The fork index: the first difference of the logs, where both have committed it; 0 if there is none.
-fn fork(difference: usize, first: Receipts, second: Receipts) -> u32
+fn fork(difference: usize, first: Receipt, second: Receipt) -> u32
     ensures { λ r. ⌜ r ≡ inner.forkOf difference first second ⌝ }
 {
-    let Receipts::Given(x) = first else {
-        return 0;
-    };
-    let Receipts::Given(y) = second else {
-        return 0;
-    };
-    if (x.index as usize) < difference {
+    if (first.index as usize) < difference {
         return 0;
     }
-    if (y.index as usize) < difference {
+    if (second.index as usize) < difference {
         return 0;
     }
     difference as u32

@@ -8,11 +8,9 @@ ghost use Rattle.submission.specs.Reading.{laidOut};
 ghost use Rattle.forensics.specs.Findings.{lowest};
 ghost use Rattle.submission_parts.specs.Parts.{Bounds};
 ghost use Rattle.forensics_charges.specs.Charges as inner;
-ghost use Rattle.forensics_charges.specs.declared.Receipts.the-variants.{Given};
 ghost use Rattle.forensics_find.specs.Tenures.{tenuresOf};
 use super::tenures;
 use forensics_charges::Receipt;
-use forensics_charges::Receipts;
 use forensics_charges::Row;
 use forensics_charges::Tenure;
 
@@ -56,13 +54,13 @@ fn among_terms(k: usize, difference: usize, a: &[u8], b: &[u8], size: usize) -> 
     best
 }
 
-// The row of replica k from a receipt of the one and the terms of the other: rule 3 or 4. The loop is that of
+// The row of replica k from the receipts of the one and the terms of the other: rule 3 or 4. The loop is that of
 // `against`: one over both kinds of charge would need an enum of them, with its own contract, and a match in
 // each turn.
-fn after_given(k: usize, rule: u8, given: Receipt, s: &[u8], size: usize) -> Row
+fn after_receipts(k: usize, rule: u8, given: Receipt, s: &[u8], size: usize) -> Row
     requires { ⌜ (0 < k) × (0 < rule) × Bounds size (now s) × (laidOut 4 size (now s) ≡ true) ⌝ }
     ensures { λ r. ⌜ inner.chargeOf r
-        ≡ lowest (inner.afterReceipts k rule (Given given) (tenuresOf size (now (s .entry)))) ⌝ }
+        ≡ lowest (inner.afterReceipts k rule given (tenuresOf size (now (s .entry)))) ⌝ }
 {
     let mut best = forensics_charges::unnamed_row();
     let mut left = submission_trailer::leader_count(s);
@@ -80,26 +78,14 @@ fn after_given(k: usize, rule: u8, given: Receipt, s: &[u8], size: usize) -> Row
     best
 }
 
-// The row of replica k from the receipts of the one, where it has any, and the terms of the other.
-fn after_receipts(k: usize, rule: u8, receipts: Receipts, s: &[u8], size: usize) -> Row
-    requires { ⌜ (0 < k) × (0 < rule) × Bounds size (now s) × (laidOut 4 size (now s) ≡ true) ⌝ }
-    ensures { λ r. ⌜ inner.chargeOf r
-        ≡ lowest (inner.afterReceipts k rule receipts (tenuresOf size (now (s .entry)))) ⌝ }
-{
-    match receipts {
-        Receipts::Given(given) => after_given(k, rule, given, s, size),
-        Receipts::Absent => forensics_charges::unnamed_row(),
-    }
-}
-
 // The row of replica k, from two submissions whose logs differ first at an index, and their receipts.
 fn row(
     k: usize,
     difference: usize,
     a: &[u8],
     b: &[u8],
-    first: Receipts,
-    second: Receipts,
+    first: Receipt,
+    second: Receipt,
     size: usize,
 ) -> Row
     requires { ⌜ (0 < k) × Bounds size (now a) × (laidOut 4 size (now a) ≡ true) × Bounds size (now b)
@@ -119,8 +105,8 @@ pub fn rows(
     difference: usize,
     a: &[u8],
     b: &[u8],
-    first: Receipts,
-    second: Receipts,
+    first: Receipt,
+    second: Receipt,
     size: usize,
 ) -> [Row; 9]
     requires { ⌜ Bounds size (now a) × (laidOut 4 size (now a) ≡ true) × Bounds size (now b)

@@ -12,7 +12,6 @@ ghost use Rattle.submission_parts.specs.Parts.{Bounds};
 ghost use Rattle.forensics_charges.specs.Charges.{receipts};
 ghost use Rattle.forensics_find.specs.Tenures as inner;
 use forensics_charges::Receipt;
-use forensics_charges::Receipts;
 use forensics_charges::Tenure;
 use submission::LAST_INDEX_AT;
 use submission_parts::CommitPart;
@@ -49,19 +48,22 @@ pub fn tenure_at(s: &[u8], later: usize, at: usize, next: usize) -> Tenure
 
 // The receipts of a submission: the term of the record that its commit certificate names, the index, and the
 // signers.
-pub fn receipts_of(s: &[u8], size: usize) -> Receipts
+pub fn receipts_of(s: &[u8], size: usize) -> Receipt
     requires { ⌜ Bounds size (now s) × (laidOut 4 size (now s) ≡ true)
         × (within (view 4 size (now s) .commit) (length (view 4 size (now s) .log)) ≡ true) ⌝ }
     ensures { λ r. ⌜ r ≡ receipts (view 4 size (now (s .entry))) ⌝ }
 {
     let CommitPart::Found(c, _) = submission_parts::commit_part(s, size) else {
-        return Receipts::Absent;
+        return Receipt {
+            term: 0,
+            index: 0,
+            signers: 0,
+        };
     };
     let term = log_terms::last_term(s, c.index as usize);
-    let given = Receipt {
+    Receipt {
         term: term,
         index: c.index,
         signers: c.signers,
-    };
-    Receipts::Given(given)
+    }
 }

@@ -14,7 +14,7 @@ use Rattle.words.proofs.Bytes.{Bytes}
 use Rattle.refusal.proofs.Laws.{look}
 use Rattle.roster.specs.Roster.{replicas, signatureSize}
 use Rattle.roster.specs.Masks.{signer}
-use Rattle.roster.proofs.Masks.{signer-positive}
+use Rattle.roster.proofs.Masks.{signer-none}
 use Rattle.roster.proofs.Accepted.{sizes}
 use Rattle.submission.specs.Validate.{formOf, viewOf, slotsOf}
 use Rattle.submission.proofs.Accepted.{validated}
@@ -32,10 +32,6 @@ mask-fits : (roster s₁ s₂ : List ℕ) → maskOf (findings (signatureSize ro
 unfolding findings rowsFrom
 mask-fits roster s₁ s₂ =
     lt-of-lt-of-le (mask-small (findings (signatureSize roster) (viewOf roster s₁) (viewOf roster s₂) .rows)) (lit≤ tt)
-
--- a mask of 0 names no one
-no-one : (k : ℕ) → signer 0 k ≡ false
-no-one k = ⊎-elim (λ (e : signer 0 k ≡ true). absurd (omega (arith, signer-positive 0 k e))) (λ e. e) (look (signer 0 k))
 
 module _ (roster s₁ s₂ report : List ℕ) where
   -- a number other than 1: the report is written
@@ -72,7 +68,7 @@ module _ (roster s₁ s₂ report : List ℕ) where
   fairness b₁ b₂ other k low high acts keep own apart = go (long other) (outcome roster s₁ s₂)
     where
       go : short report ≡ false → Outcome roster s₁ s₂ → signer (namedIn (reportAfter roster s₁ s₂ report)) k ≡ false
-      go e (stopped number place some-number d) = rw (named-are e (refused number place) d (lit< tt)) (no-one k)
+      go e (stopped number place some-number d) = rw (named-are e (refused number place) d (lit< tt)) (signer-none k)
       go e (compared r v₁ v₂ d) =
           let few = sizes roster r in
           let none-charged = rows-fair roster s₁ s₂ b₁ b₂ v₁ v₂ (omega (arith, few .high)) k acts keep own apart in

@@ -3,7 +3,7 @@
 use mathlib.Core.Path.{_≡_}
 use mathlib.Core.Bool.{true, false, cond}
 use mathlib.Core.List.{_∷_, List·Memᴰ, List·Memᴰ·head, List·Memᴰ·tail, Memᴰ·cast}
-use mathlib.Core.Logic.{_⊎_, inl, inr}
+use mathlib.Core.Logic.{_⊎_, inl, inr, ⊎-elim}
 use Prim.Native.Nat.{ℕ, zero, suc, _+_, _-_, _/_, _%_, _^_, _≤_, _<_}
 use native.Mathlib.Nat.{div-one, zero-div}
 use native.Mathlib.Omega.{arith}
@@ -37,3 +37,7 @@ pub signer-positive : (mask k : ℕ) → signer mask k ≡ true → 0 < mask
 unfolding signer
 signer-positive zero k e = absurd (omega (arith, zero-div (2 ^ (k - 1)), eqb-true (0 / 2 ^ (k - 1) % 2) 1 e))
 signer-positive (suc mask) k e = omega arith
+
+-- and 0 has none
+pub signer-none : (k : ℕ) → signer 0 k ≡ false
+signer-none k = ⊎-elim (λ (e : signer 0 k ≡ true). absurd (omega (arith, signer-positive 0 k e))) (λ e. e) (look (signer 0 k))
