@@ -19,6 +19,7 @@
 #define _GNU_SOURCE
 #include "files.h"
 #include "hirelog.h"
+#include "report.h"
 
 #include <inttypes.h>
 #include <signal.h>
@@ -131,7 +132,7 @@ static void check_report(uint32_t number, const uint8_t *report)
     size_t size = number == HIRELOG_SHORT_REPORT ? 0 : HIRELOG_REPORT_SIZE;
     if ((number == HIRELOG_SHORT_REPORT) != (report_len < HIRELOG_REPORT_SIZE))
         fail("number 1 for a report that is long enough, or another for one that is not");
-    if (size > 0 && report[0] != number)
+    if (size > 0 && report[NUMBER_AT] != number)
         fail("the number returned is not the report's");
     for (size_t i = 0; i < room->size; i++) {
         ptrdiff_t at = room->start + i - report;
@@ -146,24 +147,15 @@ static void check_report(uint32_t number, const uint8_t *report)
 
 /* ---- what is printed */
 
-static uint32_t number_at(const uint8_t *p, int len)
-{
-    uint32_t number = 0;
-    while (len-- > 0)
-        number = number << 8 | *p++;
-    return number;
-}
-
 /* The lines of document 01's program. */
 static void print_lines(const uint8_t *report)
 {
-    uint32_t named = number_at(report + 6, 2);
-    printf("refusal %u in %u\nfork %" PRIu32 "\n", report[0], report[1], number_at(report + 2, 4));
-    for (unsigned k = 1; k <= 9; k++) {
-        const uint8_t *row = report + 8 + 5 * (k - 1);
-        if (named >> (k - 1) & 1)
-            printf("board %u rule %u term %" PRIu32 "\n", k, row[0], number_at(row + 1, 4));
-    }
+    printf("refusal %u in %u\n", report[NUMBER_AT], report[PLACE_AT]);
+    printf("fork %" PRIu32 "\n", report_fork(report));
+    for (unsigned k = 1; k <= REPLICAS_MOST; k++)
+        if (report_named(report) >> (k - 1) & 1)
+            printf("board %u rule %u term %" PRIu32 "\n", k, report_rule(report, k),
+                   report_term(report, k));
 }
 
 static void print_answer(uint32_t number, const uint8_t *report)

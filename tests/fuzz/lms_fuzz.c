@@ -13,6 +13,7 @@
  * byte more or fewer of key or signature, it has to be bad.
  */
 #define _GNU_SOURCE
+#include "big_endian.h"
 #include "hirelog.h"
 #include "parts.h"
 
@@ -37,7 +38,7 @@ static int read_input(const uint8_t *data, size_t size, struct input *input)
     size_t left = size - HEAD;
     input->how = data[3];
     input->lens[KEY] = take(data[0], &left);
-    input->lens[MESSAGE] = take((size_t)data[1] << 8 | data[2], &left);
+    input->lens[MESSAGE] = take(read_u16(data + 1), &left);
     input->lens[SIGNATURE] = left;
     input->parts[KEY] = data + HEAD;
     input->parts[MESSAGE] = input->parts[KEY] + input->lens[KEY];
@@ -52,8 +53,7 @@ static size_t write_input(const struct input *input, uint8_t *data, size_t size,
     if (HEAD + input->lens[KEY] + input->lens[MESSAGE] + input->lens[SIGNATURE] > max_size)
         return size;
     data[0] = (uint8_t)input->lens[KEY];
-    data[1] = (uint8_t)(input->lens[MESSAGE] >> 8);
-    data[2] = (uint8_t)input->lens[MESSAGE];
+    write_u16(data + 1, (uint16_t)input->lens[MESSAGE]);
     data[3] = input->how;
     for (int i = 0; i < PARTS; i++) {
         memcpy(data + at, input->parts[i], input->lens[i]);
@@ -62,23 +62,17 @@ static size_t write_input(const struct input *input, uint8_t *data, size_t size,
     return at;
 }
 
-static void put_u32(uint8_t *at, uint32_t number)
-{
-    for (int i = 0; i < 4; i++)
-        at[i] = (uint8_t)(number >> (24 - 8 * i));
-}
-
 /* Known types in key and signature, a leaf number of that tree, and the length that they give. */
 static void give_types(uint8_t *key, uint8_t *signature, size_t *signature_len, unsigned seed)
 {
     static const size_t chains[4] = {265, 133, 67, 34};
     unsigned one_time = seed % 4, tree = seed / 4 % 5, height = 5 * (tree + 1);
     size_t type_at = 8 + 32 * (chains[one_time] + 1);
-    put_u32(key, 5 + tree);
-    put_u32(key + 4, 1 + one_time);
-    put_u32(signature, seed / 20 & ((1u << height) - 1));
-    put_u32(signature + 4, 1 + one_time);
-    put_u32(signature + type_at, 5 + tree);
+    write_u32(key, 5 + tree);
+    write_u32(key + 4, 1 + one_time);
+    write_u32(signature, seed / 20 & ((1u << height) - 1));
+    write_u32(signature + 4, 1 + one_time);
+    write_u32(signature + type_at, 5 + tree);
     *signature_len = type_at + 4 + 32 * height;
 }
 
@@ -103,7 +97,7 @@ size_t LLVMFuzzerCustomMutator(uint8_t *data, size_t size, size_t max_size, unsi
         input.lens[KEY] = KEY_SIZE;
         give_types(parts[KEY], parts[SIGNATURE], &input.lens[SIGNATURE], seed);
     } else if (choice == 2) {
-        put_u32(parts[SIGNATURE], seed % 2 ? seed / 2 : 1u << seed / 2 % 32);
+        write_u32(parts[SIGNATURE], seed % 2 ? seed / 2 : 1u << seed / 2 % 32);
     } else {
         int which = choice < 5 ? KEY : choice < 9 ? MESSAGE : SIGNATURE;
         size_t others = size - input.lens[which], most = max_size - others;
