@@ -13,11 +13,13 @@
 #define _GNU_SOURCE
 #include "hex.h"
 #include "hirelog.h"
+#include "lines.h"
 
 #include <openssl/sha.h>
 
 #include <inttypes.h>
 #include <signal.h>
+#include <stdarg.h>
 #include <stdio.h>
 #include <stdlib.h>
 #include <string.h>
@@ -38,11 +40,21 @@ static uint8_t *room, *room_end; /* readable bytes between two unreadable pages 
 static unsigned long checks;     /* calls whose every outcome was checked */
 
 /* What is being tried, for a failure's report. */
-static const char *part = "set-up";
+static char part[300] = "set-up";
 static uint64_t part_seed;
 static char under_way[400];
 
 /* ---- reports */
+
+/* Says what is tried from now on, and from which seed. */
+__attribute__((format(printf, 2, 3))) static void set_part(uint64_t seed, const char *format, ...)
+{
+    va_list values;
+    va_start(values, format);
+    vsnprintf(part, sizeof part, format, values);
+    va_end(values);
+    part_seed = seed;
+}
 
 static void print_hex(const char *name, const uint8_t *bytes)
 {
@@ -127,7 +139,8 @@ static void check_call(const uint8_t *message, size_t len, enum place place, uin
 
     if (number != want_number) {
         char text[80];
-        snprintf(text, sizeof text, "number %" PRIu32 " returned, not %" PRIu32, number, want_number);
+        snprintf(text, sizeof text, "number %" PRIu32 " returned, not %" PRIu32, number,
+                 want_number);
         fail(text, NULL, NULL);
     }
     if (!want && memcmp(digest, before + at, 32) != 0)
@@ -144,7 +157,8 @@ static void check_call(const uint8_t *message, size_t len, enum place place, uin
 }
 
 /* The same message at the end of the room and at its start. */
-static void check_both(const uint8_t *message, size_t len, uint32_t want_number, const uint8_t *want)
+static void check_both(const uint8_t *message, size_t len, uint32_t want_number,
+                       const uint8_t *want)
 {
     check_call(message, len, AT_END, want_number, want);
     check_call(message, len, AT_START, want_number, want);
@@ -160,48 +174,44 @@ static void check_with_openssl(const uint8_t *message, size_t len)
 
 /* ---- the parts */
 
+/* Takes a line apart into message and digest; the message's length, or -1 if it is not that. */
+static long read_vector(char *line, uint8_t *message, size_t message_room, uint8_t digest[32])
+{
+    char *rest = NULL;
+    char *hex_message = strtok_r(line, " \n", &rest);
+    char *hex_digest = strtok_r(NULL, " \n", &rest);
+    if (!hex_message || !hex_digest || strtok_r(NULL, " \n", &rest) ||
+        decode_hex(hex_digest, digest, 32) != 32)
+        return -1;
+    return decode_hex(hex_message, message, message_room);
+}
+
 static void check_vectors(const char *path)
 {
     static uint8_t message[1 << 16];
     uint8_t want[32];
-    char *line = NULL;
-    size_t line_room = 0;
-    unsigned long lines = 0;
-    FILE *file = fopen(path, "r");
-    part_seed = 0;
-    if (!file) {
-        snprintf(under_way, sizeof under_way, "  %s\n", path);
-        fail("cannot open a vector file", NULL, NULL);
+    const char *wanted = NULL;
+    struct lines lines;
+    open_lines(&lines, path);
+    while (!wanted && next_line(&lines)) {
+        long len = read_vector(lines.text, message, sizeof message, want);
+        set_part(0, "%s line %lu", path, lines.number);
+        if (len < 0)
+            wanted = "a message and a digest";
+        else
+            check_both(message, (size_t)len, HIRELOG_OK, want);
     }
-    while (getline(&line, &line_room, file) > 0) {
-        char name[300];
-        snprintf(name, sizeof name, "%s line %lu", path, ++lines);
-        part = name;
-        char *rest = NULL;
-        char *hex_message = strtok_r(line, " \n", &rest);
-        char *hex_digest = strtok_r(NULL, " \n", &rest);
-        long len = hex_message ? decode_hex(hex_message, message, sizeof message) : -1;
-        if (len < 0 || !hex_digest || decode_hex(hex_digest, want, 32) != 32 ||
-            strtok_r(NULL, " \n", &rest)) {
-            snprintf(under_way, sizeof under_way, "  %s\n", name);
-            fail("not a line of a message and a digest", NULL, NULL);
-        }
-        check_both(message, (size_t)len, HIRELOG_OK, want);
+    const char *problem = close_lines(&lines, wanted);
+    if (problem) {
+        under_way[0] = '\0';
+        fail(problem, NULL, NULL);
     }
-    part = "";
-    if (ferror(file) || lines == 0) {
-        snprintf(under_way, sizeof under_way, "  %s\n", path);
-        fail("a vector file with no line, or unreadable", NULL, NULL);
-    }
-    free(line);
-    fclose(file);
 }
 
 static void check_every_length(void)
 {
-    part = "every length";
-    part_seed = 300;
-    uint64_t random = part_seed;
+    uint64_t random = 300;
+    set_part(random, "every length");
     uint8_t message[300];
     for (size_t len = 0; len <= sizeof message; len++) {
         fill_random(&random, message, len);
@@ -211,9 +221,8 @@ static void check_every_length(void)
 
 static void check_null(void)
 {
-    part = "no message";
-    part_seed = 0;
     uint8_t want[32];
+    set_part(0, "no message");
     if (!SHA256((const uint8_t *)"", 0, want))
         fail("OpenSSL gave no digest", NULL, NULL);
     check_call(NULL, 0, AT_NULL, HIRELOG_OK, want);
@@ -222,9 +231,8 @@ static void check_null(void)
 /* The longest message, and one byte more. */
 static void check_limit(void)
 {
-    part = "the limit";
-    part_seed = 16;
-    uint64_t random = part_seed;
+    uint64_t random = 16;
+    set_part(random, "the limit");
     size_t max = HIRELOG_MESSAGE_MAX;
     uint8_t *message = malloc(max + 1);
     if (!message)
@@ -237,8 +245,7 @@ static void check_limit(void)
 
 static void check_random(const char *name, uint64_t seed, int count)
 {
-    part = name;
-    part_seed = seed;
+    set_part(seed, "%s", name);
     uint64_t random = seed;
     uint8_t message[4096];
     for (int i = 0; i < count; i++) {
