@@ -1,53 +1,63 @@
 /*
- * The bench tool: hands hirelog_audit four byte buffers and prints what it gives.
+ * Document 01's bench tool: hands hirelog_audit four byte buffers and prints what it gives.
  *
  *   audit_tool ROSTER FIRST SECOND [REPORT_LENGTH]   buffers from three files, a report of 53 bytes
  *                                                    or as many as asked for
- *   audit_tool FOLDER                                the same with the folder's files roster, first,
- *                                                    second, and report_length if there is one
+ *   audit_tool FOLDER                                the same with the folder's files roster,
+ *                                                    first, second, and report_length if there is
+ *                                                    one
  *
  * Printed are the number, the report's buffer in hex, and the lines of document 01's program. The
  * folder is one that make_cases writes, or audit_compare where the library fails; if it has a file
- * report, the buffer must begin with those bytes.
+ * report, the report must begin with those bytes.
  *
  * The audit is called several times, and each call must give the same. In the first an unreadable
  * page stands right after each buffer, in the second right before it, and in the third, if there
  * are buffers of no bytes, these are NULL. The roster and the submissions cannot be written, and no
- * byte of the report's pages may change but its first 53, none with number 1. The exit status is 0
- * if that held, whatever the number; 1 if not; 2 if a file cannot be read.
+ * byte in or around the report may change but its first 53, none with number 1. The exit status is
+ * 0 if that held, whatever the number; 1 if not; 2 if a file cannot be read.
  */
 #define _GNU_SOURCE
 #include "files.h"
+#include "guarded.h"
 #include "hirelog.h"
 #include "report.h"
 
 #include <inttypes.h>
-#include <signal.h>
-#include <sys/mman.h>
 #include <unistd.h>
 
-enum { ROSTER, FIRST, SECOND, REPORT, BUFFERS };
-enum place { AT_END, AT_START, NULLS, PLACES };
+enum { ROSTER, FIRST, SECOND, INPUTS };
 
-static const char *const place_names[PLACES] = {
+static const char *const file_names[INPUTS] = {"roster", "first", "second"};
+static const char *const input_names[INPUTS] = {"roster", "first submission", "second submission"};
+
+/* The calls, in their order. */
+enum call { AFTER_EACH, BEFORE_EACH, NULLS, CALLS };
+
+static const char *const call_names[CALLS] = {
     "with an unreadable page right after each buffer",
     "with an unreadable page right before each buffer",
     "with NULL for each buffer of no bytes",
 };
-static enum place under_way; /* for a fault's message */
+static char under_way[100]; /* the call, for a fault's message */
 
-/* Pages between two unreadable ones, for each buffer. */
-static struct room {
-    uint8_t *start;
-    size_t size;
-} rooms[BUFFERS];
-
-static struct file inputs[REPORT];
+static struct file inputs[INPUTS], expected;
 static size_t report_len = HIRELOG_REPORT_SIZE;
+
+static struct guarded input_rooms[INPUTS], report_room;
+
+/* What the audit gives: the number, and as many bytes of the report as it has to write. */
+struct answer {
+    uint32_t number;
+    size_t written;
+    uint8_t report[HIRELOG_REPORT_SIZE];
+};
+
+/* ---- what is said */
 
 static _Noreturn void fail(const char *what)
 {
-    printf("audit_tool: FAILED: %s, %s\n", what, place_names[under_way]);
+    printf("audit_tool: FAILED: %s\n%s", what, under_way);
     fflush(stdout);
     _exit(1);
 }
@@ -58,94 +68,10 @@ static _Noreturn void stop(const char *path, const char *why, const char *hint)
     exit(2);
 }
 
-/* A call that reads or writes where it must not ends here. */
-static void on_fault(int number)
+static _Noreturn void guarded_stop(const char *why, const char *hint)
 {
-    static const char text[] = "audit_tool: FAILED: a fault (memory or instruction) in the call, ";
-    const char *place = place_names[under_way];
-    ssize_t ignored = write(STDOUT_FILENO, text, sizeof text - 1);
-    ignored = write(STDOUT_FILENO, place, strlen(place));
-    ignored = write(STDOUT_FILENO, "\n", 1);
-    (void)ignored;
-    (void)number;
-    _exit(1);
+    stop("the buffers", why, hint);
 }
-
-/* ---- the buffers */
-
-static void make_room(struct room *room, size_t len)
-{
-    size_t page = (size_t)sysconf(_SC_PAGESIZE);
-    room->size = (len / page + 1) * page; /* never none */
-    uint8_t *all = mmap(NULL, room->size + 2 * page, PROT_NONE, MAP_PRIVATE | MAP_ANONYMOUS, -1, 0);
-    if (all == MAP_FAILED)
-        stop("the buffers", strerror(errno), "free some memory");
-    room->start = all + page;
-}
-
-static void allow(const struct room *room, int protection)
-{
-    if (mprotect(room->start, room->size, protection) != 0)
-        stop("the buffers", strerror(errno), "run it where mprotect is allowed");
-}
-
-static uint8_t *place_in(const struct room *room, size_t len, enum place place)
-{
-    return room->start + (place == AT_START ? 0 : room->size - len);
-}
-
-/* What stands in the report's pages before a call; the place counts from the report's start. */
-static uint8_t filling(ptrdiff_t at)
-{
-    return (uint8_t)((uint8_t)at * 37 ^ 0xa5);
-}
-
-/* ---- a call */
-
-/* Calls the audit with the buffers so placed; the report is then at *report. */
-static uint32_t call(enum place place, const uint8_t **report)
-{
-    const uint8_t *at[REPORT];
-    under_way = place;
-    for (int i = 0; i < REPORT; i++) {
-        uint8_t *copy = place_in(&rooms[i], inputs[i].len, place);
-        allow(&rooms[i], PROT_READ | PROT_WRITE);
-        if (inputs[i].len > 0)
-            memcpy(copy, inputs[i].bytes, inputs[i].len);
-        allow(&rooms[i], PROT_READ);
-        at[i] = place == NULLS && inputs[i].len == 0 ? NULL : copy;
-    }
-    uint8_t *written = place_in(&rooms[REPORT], report_len, place);
-    allow(&rooms[REPORT], PROT_READ | PROT_WRITE);
-    for (size_t i = 0; i < rooms[REPORT].size; i++)
-        rooms[REPORT].start[i] = filling(rooms[REPORT].start + i - written);
-    *report = written;
-    return hirelog_audit(at[ROSTER], inputs[ROSTER].len, at[FIRST], inputs[FIRST].len, at[SECOND],
-                         inputs[SECOND].len,
-                         place == NULLS && report_len == 0 ? NULL : written, report_len);
-}
-
-/* Looks at the number and at the report's pages. */
-static void check_report(uint32_t number, const uint8_t *report)
-{
-    const struct room *room = &rooms[REPORT];
-    size_t size = number == HIRELOG_SHORT_REPORT ? 0 : HIRELOG_REPORT_SIZE;
-    if ((number == HIRELOG_SHORT_REPORT) != (report_len < HIRELOG_REPORT_SIZE))
-        fail("number 1 for a report that is long enough, or another for one that is not");
-    if (size > 0 && report[NUMBER_AT] != number)
-        fail("the number returned is not the report's");
-    for (size_t i = 0; i < room->size; i++) {
-        ptrdiff_t at = room->start + i - report;
-        if ((at < 0 || at >= (ptrdiff_t)size) && room->start[i] != filling(at)) {
-            char text[120];
-            snprintf(text, sizeof text, "byte %td of the report (%zu are the audit's) was written",
-                     at, size);
-            fail(text);
-        }
-    }
-}
-
-/* ---- what is printed */
 
 /* The lines of document 01's program. */
 static void print_lines(const uint8_t *report)
@@ -166,29 +92,95 @@ static void print_answer(uint32_t number, const uint8_t *report)
     printf("\n");
     if (number != HIRELOG_SHORT_REPORT)
         print_lines(report);
+    fflush(stdout);
 }
 
-/* The report must begin with the bytes of the folder's file. */
-static void check_expected(const struct file *expected, const uint8_t *report)
+/* ---- what must hold */
+
+/* Looks at the number, and at the bytes in and around the report. */
+static void check_report(const struct answer *answer)
+{
+    ptrdiff_t at;
+    char text[120];
+    if ((answer->number == HIRELOG_SHORT_REPORT) != (report_len < HIRELOG_REPORT_SIZE))
+        fail("number 1 for a report that is long enough, or another for one that is not");
+    if (answer->written > 0 && answer->report[NUMBER_AT] != answer->number)
+        fail("the number returned is not the report's");
+    if (guarded_changed(&report_room, answer->written, &at)) {
+        snprintf(text, sizeof text, "byte %td of the report (%zu are the audit's) was written", at,
+                 answer->written);
+        fail(text);
+    }
+}
+
+/*
+ * The report must begin with the bytes of the folder's file. What the audit does not write has been
+ * looked at: there the file has what audit_compare filled its buffer with.
+ */
+static void check_expected(const struct answer *answer)
 {
     char text[120];
-    for (size_t i = 0; i < expected->len; i++) {
-        if (i >= report_len || report[i] != expected->bytes[i]) {
+    for (size_t i = 0; i < expected.len; i++) {
+        if (i >= report_len || (i < answer->written && answer->report[i] != expected.bytes[i])) {
             snprintf(text, sizeof text, "byte %zu of the report is not that of the file report", i);
             fail(text);
         }
     }
 }
 
+/* ---- a call */
+
+/* Calls the audit so; the report is then in its room. */
+static struct answer call_audit(enum call call)
+{
+    enum guarded_side side = call == BEFORE_EACH ? PAGE_BEFORE : PAGE_AFTER;
+    const uint8_t *lent[INPUTS];
+    for (int i = 0; i < INPUTS; i++) {
+        const uint8_t *copy = guarded_lend(&input_rooms[i], inputs[i].bytes, inputs[i].len, side);
+        lent[i] = call == NULLS && inputs[i].len == 0 ? NULL : copy;
+    }
+    uint8_t *report = guarded_offer(&report_room, report_len, side, 0);
+    if (call == NULLS && report_len == 0)
+        report = NULL;
+
+    struct answer answer = {0};
+    snprintf(under_way, sizeof under_way, "  %s\n", call_names[call]);
+    answer.number = hirelog_audit(lent[ROSTER], inputs[ROSTER].len, lent[FIRST], inputs[FIRST].len,
+                                  lent[SECOND], inputs[SECOND].len, report, report_len);
+    if (answer.number != HIRELOG_SHORT_REPORT && report_len >= HIRELOG_REPORT_SIZE) {
+        answer.written = HIRELOG_REPORT_SIZE;
+        memcpy(answer.report, report, HIRELOG_REPORT_SIZE);
+    }
+    return answer;
+}
+
+/* Makes the calls, prints what the first gives, and holds the others to it. */
+static void run_calls(enum call end)
+{
+    struct answer first, again;
+    for (enum call call = AFTER_EACH; call < end; call++) {
+        again = call_audit(call);
+        check_report(&again);
+        if (call == AFTER_EACH) {
+            first = again;
+            print_answer(first.number, report_room.bytes);
+        } else if (again.number != first.number ||
+                   memcmp(again.report, first.report, sizeof first.report) != 0) {
+            fail("another number or report than in the first call");
+        }
+        check_expected(&again);
+    }
+}
+
 /* ---- the files */
 
-static void read_length(const char *text, const char *where)
+static void read_length(const char *text, const char *from)
 {
     char *end;
     errno = 0;
     unsigned long long len = strtoull(text, &end, 10);
     if (errno || end == text || *end > ' ' || *text == '-' || len > 1 << 30)
-        stop(where, "not a report's length", "write a number up to 1073741824");
+        stop(from, "not a report's length", "write a number up to 1073741824");
     report_len = (size_t)len;
 }
 
@@ -212,29 +204,31 @@ static int read_optional(const char *folder, const char *name, struct file *file
 
 static void read_folder(const char *folder)
 {
-    static const char *const names[REPORT] = {"roster", "first", "second"};
     struct file length;
     char path[4096], text[32];
-    for (int i = 0; i < REPORT; i++) {
-        snprintf(path, sizeof path, "%s/%s", folder, names[i]);
+    for (int i = 0; i < INPUTS; i++) {
+        snprintf(path, sizeof path, "%s/%s", folder, file_names[i]);
         read_input(&inputs[i], path, "put a readable file there, an empty one for no bytes");
     }
     if (read_optional(folder, "report_length", &length)) {
         snprintf(text, sizeof text, "%.*s", (int)(length.len < 31 ? length.len : 31), length.bytes);
         read_length(text, "report_length");
     }
+    read_optional(folder, "report", &expected);
+}
+
+static void read_files(char *const paths[INPUTS])
+{
+    for (int i = 0; i < INPUTS; i++)
+        read_input(&inputs[i], paths[i], "name a file that can be read, /dev/null for no bytes");
 }
 
 int main(int argc, char **argv)
 {
-    struct file expected = {NULL, 0};
     if (argc == 2) {
         read_folder(argv[1]);
-        read_optional(argv[1], "report", &expected);
     } else if (argc == 4 || argc == 5) {
-        for (int i = 0; i < REPORT; i++)
-            read_input(&inputs[i], argv[1 + i],
-                       "name a file that can be read, /dev/null for no bytes");
+        read_files(argv + 1);
         if (argc == 5)
             read_length(argv[4], argv[4]);
     } else {
@@ -244,32 +238,12 @@ int main(int argc, char **argv)
     }
 
     int empty = report_len == 0;
-    for (int i = 0; i < REPORT; i++) {
-        make_room(&rooms[i], inputs[i].len);
+    for (int i = 0; i < INPUTS; i++) {
+        guarded_make(&input_rooms[i], input_names[i], inputs[i].len);
         empty |= inputs[i].len == 0;
     }
-    make_room(&rooms[REPORT], report_len);
-    signal(SIGSEGV, on_fault);
-    signal(SIGBUS, on_fault);
-    signal(SIGILL, on_fault);
-
-    uint32_t number = 0;
-    uint8_t *before = malloc(report_len + 1);
-    if (!before)
-        stop("the report", "no memory", "ask for a shorter one");
-    for (enum place place = AT_END; place < (empty ? PLACES : NULLS); place++) {
-        const uint8_t *report;
-        uint32_t given = call(place, &report);
-        check_report(given, report);
-        if (place == AT_END) {
-            number = given;
-            memcpy(before, report, report_len);
-            print_answer(number, report);
-            fflush(stdout);
-        } else if (given != number || memcmp(report, before, report_len) != 0) {
-            fail("another number or report than in the first call");
-        }
-        check_expected(&expected, report);
-    }
+    guarded_make(&report_room, "report", report_len);
+    guarded_watch("audit_tool", under_way);
+    run_calls(empty ? CALLS : NULLS);
     return 0;
 }

@@ -2,16 +2,17 @@
  * A libFuzzer harness of hirelog_audit; tests/fuzz/run builds it and runs it.
  *
  * An input is the roster's length (2 bytes), the first submission's (4 bytes), the report's (2
- * bytes), all big-endian, then roster, first and second. A length that is too large takes what there
- * is. A mutation changes one of the parts and writes the lengths anew.
+ * bytes), all big-endian, then roster, first and second. A length that is too large takes what
+ * there is. A mutation changes one of the parts and writes the lengths anew.
  *
- * The parts are lent as parts.h says, by the lowest bits of the report's length. Number, report and
- * the bytes after it have to be those of the separately written auditor. The library has no counters
- * of its own, so what leads the fuzzer on is the auditor's branches, and what the audit says: its
- * number and place, and each replica's rule. Of a report these rules of document 01 are checked by
- * themselves besides: the bytes after it stay, a refusal has nothing but number and place, a fork
- * names somebody, a submission audited beside itself names nobody, and exchanging the submissions
- * keeps the fork and the replicas named.
+ * The parts are lent as parts.h says, by the lowest bits of the report's length, and the report
+ * stands at an unreadable page as they do, among guard bytes. Number, report and the bytes after it
+ * have to be those of the separately written auditor. The library has no counters of its own, so
+ * what leads the fuzzer on is the auditor's branches, and what the audit says: its number and
+ * place, and each replica's rule. Of a report these rules of document 01 are checked by themselves
+ * besides: the bytes around it stay, a refusal has nothing but number and place, a fork names
+ * somebody, a submission audited beside itself names nobody, and exchanging the submissions keeps
+ * the fork and the replicas named.
  */
 #define _GNU_SOURCE
 #include "hirelog.h"
@@ -97,23 +98,36 @@ size_t LLVMFuzzerCustomMutator(uint8_t *data, size_t size, size_t max_size, unsi
 
 /* ---- a call */
 
+/* How many bytes of the report are written with a number. */
+static size_t written(uint32_t number)
+{
+    return number == HIRELOG_SHORT_REPORT ? 0 : HIRELOG_REPORT_SIZE;
+}
+
 /* The number and the report of both, which have to be the same. */
 static uint32_t call(const struct input *input, uint8_t report[REPORT_ROOM])
 {
+    static struct guarded room;
     const uint8_t *lent[PARTS];
     uint8_t expected[REPORT_ROOM];
+    ptrdiff_t at;
+    if (!room.pages)
+        guarded_make(&room, "report", REPORT_ROOM);
     lend(input->parts, input->lens, input->report_len, lent);
-    memset(report, 0xa5, REPORT_ROOM);
-    memset(expected, 0xa5, REPORT_ROOM);
+    uint8_t *offered = guarded_offer(&room, input->report_len, side_of(input->report_len), 0);
+    memcpy(expected, offered, input->report_len);
     uint32_t number =
         hirelog_audit(lent[ROSTER], input->lens[ROSTER], lent[FIRST], input->lens[FIRST],
-                      lent[SECOND], input->lens[SECOND], report, input->report_len);
+                      lent[SECOND], input->lens[SECOND], offered, input->report_len);
     if (number != auditor_audit(input->parts[ROSTER], input->lens[ROSTER], input->parts[FIRST],
                                 input->lens[FIRST], input->parts[SECOND], input->lens[SECOND],
                                 expected, input->report_len))
         fail("another number than the auditor's");
-    if (memcmp(report, expected, REPORT_ROOM) != 0)
+    if (memcmp(offered, expected, input->report_len) != 0)
         fail("another report than the auditor's, or other bytes after it");
+    if (guarded_changed(&room, written(number), &at))
+        fail("a byte before or after the report was written");
+    memcpy(report, offered, input->report_len);
     return number;
 }
 
@@ -135,20 +149,16 @@ static void check_rows(const uint8_t *report, unsigned replicas)
 
 static void check_report(const struct input *input, uint32_t number, const uint8_t *report)
 {
-    size_t written = number == HIRELOG_SHORT_REPORT ? 0 : HIRELOG_REPORT_SIZE;
     if ((number == HIRELOG_SHORT_REPORT) != (input->report_len < HIRELOG_REPORT_SIZE))
         fail("number 1 for a long report, or another for a short one");
-    for (size_t i = written; i < REPORT_ROOM; i++)
-        if (report[i] != 0xa5)
-            fail("a byte after the report was written");
-    if (written == 0)
+    if (number == HIRELOG_SHORT_REPORT)
         return;
     unsigned place = report[PLACE_AT];
     if (number > HIRELOG_BAD_SIGNATURE || report[NUMBER_AT] != number || place >= PLACES ||
         (number >= HIRELOG_SIZE) != (place > 0))
         fail("a number or a place that there is not");
     seen[PLACES * number + place] = 1;
-    for (size_t i = FORK_AT; number != HIRELOG_OK && i < written; i++)
+    for (size_t i = FORK_AT; number != HIRELOG_OK && i < HIRELOG_REPORT_SIZE; i++)
         if (report[i] != 0)
             fail("more than number and place after a refusal");
     if (number == HIRELOG_OK) {

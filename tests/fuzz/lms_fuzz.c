@@ -1,16 +1,16 @@
 /*
  * A libFuzzer harness of hirelog_lms_check; tests/fuzz/run builds it and runs it.
  *
- * An input is the key's length (1 byte), the message's (2 bytes, big-endian), how the parts are lent
- * (1 byte, parts.h), then key, message and signature. A length that is too large takes what there is.
- * A mutation changes one of the parts, or gives key and signature types that are known and the
- * signature their length, or takes another leaf number, and writes the lengths anew.
+ * An input is the key's length (1 byte), the message's (2 bytes, big-endian), how the parts are
+ * lent (1 byte, parts.h), then key, message and signature. A length that is too large takes what
+ * there is. A mutation changes one of the parts, or gives key and signature types that are known
+ * and the signature their length, or takes another leaf number, and writes the lengths anew.
  *
  * The number has to be that of the separately written auditor, whose branches lead the fuzzer on,
  * with the types of the signatures that lead to a root. Such a signature is hardly ever good once
- * something has been changed, so the auditor's root is then put into the key: now it has to be good,
- * which it is only if the library comes to the same root; and with one bit of that changed, or with a
- * byte more or fewer of key or signature, it has to be bad.
+ * something has been changed, so the auditor's root is then put into the key: now it has to be
+ * good, which it is only if the library comes to the same root; and with one bit of that changed,
+ * or with a byte more or fewer of key or signature, it has to be bad.
  */
 #define _GNU_SOURCE
 #include "big_endian.h"
@@ -21,7 +21,8 @@ enum { KEY, MESSAGE, SIGNATURE };
 enum { HEAD = 4, KEY_SIZE = HIRELOG_LMS_KEY_SIZE, ROOT_AT = 24 };
 
 /* What libFuzzer counts as new beside the branches. */
-__attribute__((used, section("__libfuzzer_extra_counters"))) static volatile uint8_t seen[5 * 4 * 2];
+__attribute__((used, section("__libfuzzer_extra_counters"))) static volatile uint8_t
+    seen[5 * 4 * 2];
 
 struct input {
     const uint8_t *parts[PARTS];
@@ -158,7 +159,8 @@ int LLVMFuzzerTestOneInput(const uint8_t *data, size_t size)
                                     input.lens[SIGNATURE]))
         fail("another number than the auditor's");
     if (auditor_lms_root(input.parts[KEY], input.lens[KEY], input.parts[MESSAGE],
-                         input.lens[MESSAGE], input.parts[SIGNATURE], input.lens[SIGNATURE], root)) {
+                         input.lens[MESSAGE], input.parts[SIGNATURE], input.lens[SIGNATURE],
+                         root)) {
         int tree = input.parts[KEY][3] - 5, one_time = input.parts[KEY][7] - 1;
         seen[2 * (4 * tree + one_time) + (number == HIRELOG_OK)] = 1;
         check_root(&input, root);
