@@ -1,7 +1,7 @@
 /*
- * A child in which OpenSSL has no SHA instructions. OpenSSL reads OPENSSL_ia32cap when it is loaded,
- * so the child is this program again, with that variable set. It measures a round for each byte that
- * it is sent and waits meanwhile, so its rounds take their turn among the others.
+ * A child in which OpenSSL has no SHA instructions. OpenSSL reads OPENSSL_ia32cap when it is
+ * loaded, so the child is this program again, with that variable set. It measures a round for each
+ * byte that it is sent and waits meanwhile, so its rounds take their turn among the others.
  * Before any header: #define _GNU_SOURCE
  */
 #ifndef CHILD_H

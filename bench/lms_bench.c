@@ -86,7 +86,10 @@ static void try_vector(const struct lms_vector *vector)
         measured = *vector;
 }
 
-/* Makes the message of as many blocks as measured takes; how many. Padding takes 9 bytes at least. */
+/*
+ * Makes the message of as many blocks as measured takes, of which padding takes 9 bytes at least;
+ * how many blocks.
+ */
 static uint64_t make_long_message(void)
 {
     if (!portable(&measured))

@@ -1,7 +1,7 @@
 /*
  * The check of an LMS signature over OpenSSL's SHA-256: portable_lms.c once more, with the blocks
- * taken by OpenSSL. SHA256_Transform takes one block and nothing else, so there is no cheaper way to
- * ask OpenSSL for a chain's steps.
+ * taken by OpenSSL. SHA256_Transform takes one block and nothing else, so there is no cheaper way
+ * to ask OpenSSL for a chain's steps.
  */
 #define OPENSSL_SUPPRESS_DEPRECATED /* SHA256_Transform: no search for an algorithm per call */
 #include <openssl/sha.h>

@@ -6,6 +6,7 @@
  * number and the value, and takes the block once.
  */
 #include "portable_lms.h"
+#include "big_endian.h"
 #include "portable_sha256.h"
 
 #include <string.h>
@@ -20,11 +21,6 @@ struct one_time {
     unsigned w, p, ls;
 };
 static const struct one_time one_times[] = {{1, 265, 7}, {2, 133, 6}, {4, 67, 4}, {8, 34, 0}};
-
-static inline uint32_t load_word(const uint8_t *p)
-{
-    return (uint32_t)p[0] << 24 | (uint32_t)p[1] << 16 | (uint32_t)p[2] << 8 | p[3];
-}
 
 /* ---- SHA-256 of a string that is given in parts */
 
@@ -66,9 +62,8 @@ static void write_prefix(uint8_t prefix[PREFIX], const uint8_t id[ID], uint32_t 
                          unsigned kind)
 {
     memcpy(prefix, id, ID);
-    portable_sha256_store(prefix + ID, number);
-    prefix[ID + 4] = (uint8_t)(kind >> 8);
-    prefix[ID + 5] = (uint8_t)kind;
+    write_u32(prefix + ID, number);
+    write_u16(prefix + ID + 4, (uint16_t)kind);
 }
 
 static void hash_start(struct hash *hash, const uint8_t id[ID], uint32_t number, unsigned kind,
@@ -83,7 +78,7 @@ static void hash_start(struct hash *hash, const uint8_t id[ID], uint32_t number,
 static void write_state(const uint32_t state[8], uint8_t value[HASH])
 {
     for (int i = 0; i < 8; i++)
-        portable_sha256_store(value + 4 * i, state[i]);
+        write_u32(value + 4 * i, state[i]);
 }
 
 /* FIPS 180-4, 5.1.1: a one bit, zeros, and the length in bits. */
@@ -97,8 +92,8 @@ static void hash_end(struct hash *hash, uint8_t value[HASH])
         at = 0;
     }
     memset(hash->block + at, 0, 56 - at);
-    portable_sha256_store(hash->block + 56, (uint32_t)(hash->len >> 29));
-    portable_sha256_store(hash->block + 60, (uint32_t)(hash->len << 3));
+    write_u32(hash->block + 56, (uint32_t)(hash->len >> 29));
+    write_u32(hash->block + 60, (uint32_t)(hash->len << 3));
     take_blocks(hash, hash->block, 1);
     write_state(hash->state, value);
 }
@@ -119,8 +114,7 @@ static void append_sum(uint8_t digits[HASH + 2], const struct one_time *type)
     for (unsigned i = 0; i < 8 * HASH / type->w; i++)
         sum += (1u << type->w) - 1 - digit(digits, i, type->w);
     sum <<= type->ls;
-    digits[HASH] = (uint8_t)(sum >> 8);
-    digits[HASH + 1] = (uint8_t)sum;
+    write_u16(digits + HASH, (uint16_t)sum);
 }
 
 /*
@@ -155,7 +149,7 @@ static void one_time_key(const struct one_time *type, const uint8_t id[ID], uint
     append_sum(digits, type);
 
     block[PREFIX + 1 + HASH] = 0x80;
-    portable_sha256_store(block + 60, 8 * (PREFIX + 1 + HASH));
+    write_u32(block + 60, 8 * (PREFIX + 1 + HASH));
     hash_start(&hash, id, leaf, D_PBLC, &blocks->public_key);
     for (unsigned i = 0; i < type->p; i++) {
         write_prefix(block, id, leaf, i);
@@ -196,7 +190,7 @@ int portable_lms_good(const uint8_t *key, size_t key_len, const uint8_t *message
     memset(blocks, 0, sizeof *blocks);
     if (key_len != KEY)
         return 0;
-    uint32_t tree_type = load_word(key), one_time_type = load_word(key + 4);
+    uint32_t tree_type = read_u32(key), one_time_type = read_u32(key + 4);
     if (tree_type < 5 || tree_type > 9 || one_time_type < 1 || one_time_type > 4)
         return 0;
     const struct one_time *type = &one_times[one_time_type - 1];
@@ -204,8 +198,8 @@ int portable_lms_good(const uint8_t *key, size_t key_len, const uint8_t *message
     size_t tree_at = 8 + HASH + (size_t)HASH * type->p;
     if (signature_len != tree_at + 4 + (size_t)HASH * height)
         return 0;
-    uint32_t leaf = load_word(signature);
-    if (load_word(signature + 4) != one_time_type || load_word(signature + tree_at) != tree_type ||
+    uint32_t leaf = read_u32(signature);
+    if (read_u32(signature + 4) != one_time_type || read_u32(signature + tree_at) != tree_type ||
         leaf >> height != 0)
         return 0;
 

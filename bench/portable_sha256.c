@@ -6,6 +6,7 @@
  * forms tried with gcc 12 -O3 (a 64-word schedule, all 64 rounds written out, other formulas for
  * the majority) none was faster beyond the noise of measuring.
  */
+#include "big_endian.h"
 #include "portable_sha256.h"
 
 #include <string.h>
@@ -59,15 +60,10 @@ const uint32_t portable_sha256_initial[8] = {0x6a09e667, 0xbb67ae85, 0x3c6ef372,
     ROUND(b, c, d, e, f, g, h, a, WORD((i) + 7))
 
 /* FIPS 180-4, 6.2.2, step 1: the words of rounds 0 to 15, and of the next 16 rounds from k on. */
-#define FIRST_WORD(i) (K[i] + (w[i] = load_word(block + 4 * (i))))
+#define FIRST_WORD(i) (K[i] + (w[i] = read_u32(block + 4 * (i))))
 #define NEXT_WORD(i)                                                        \
     (k[i] + (w[i] += SMALL_SIGMA1(w[((i) + 14) % 16]) + w[((i) + 9) % 16] + \
                      SMALL_SIGMA0(w[((i) + 1) % 16])))
-
-static inline uint32_t load_word(const uint8_t *p)
-{
-    return (uint32_t)p[0] << 24 | (uint32_t)p[1] << 16 | (uint32_t)p[2] << 8 | p[3];
-}
 
 void portable_sha256_blocks(uint32_t state[8], const uint8_t *block, size_t count)
 {
@@ -108,10 +104,10 @@ void portable_sha256(const uint8_t *message, size_t message_len, uint8_t digest[
     if (rest > 0)
         memcpy(last, message + (message_len - rest), rest);
     last[rest] = 0x80;
-    portable_sha256_store(last + last_len - 8, (uint32_t)((uint64_t)message_len >> 29));
-    portable_sha256_store(last + last_len - 4, (uint32_t)((uint64_t)message_len << 3));
+    write_u32(last + last_len - 8, (uint32_t)((uint64_t)message_len >> 29));
+    write_u32(last + last_len - 4, (uint32_t)((uint64_t)message_len << 3));
     portable_sha256_blocks(state, last, last_len / 64);
 
     for (int i = 0; i < 8; i++)
-        portable_sha256_store(digest + 4 * i, state[i]);
+        write_u32(digest + 4 * i, state[i]);
 }

@@ -16,13 +16,4 @@ extern const uint32_t portable_sha256_initial[8];
 /* Takes count blocks of 64 bytes into the state (FIPS 180-4, 6.2.2). */
 void portable_sha256_blocks(uint32_t state[8], const uint8_t *block, size_t count);
 
-/* Writes a word, its highest byte first. */
-static inline void portable_sha256_store(uint8_t *p, uint32_t x)
-{
-    p[0] = (uint8_t)(x >> 24);
-    p[1] = (uint8_t)(x >> 16);
-    p[2] = (uint8_t)(x >> 8);
-    p[3] = (uint8_t)x;
-}
-
 #endif

@@ -2,6 +2,7 @@
 #ifndef SLOTS_H
 #define SLOTS_H
 
+#include "big_endian.h"
 #include "files.h"
 #include "portable_sha256.h"
 
@@ -19,11 +20,6 @@ struct slot_reader {
     size_t signature_len, count;
     struct slot *slots;
 };
-
-static inline uint32_t read_u32(const uint8_t *p)
-{
-    return (uint32_t)p[0] << 24 | (uint32_t)p[1] << 16 | (uint32_t)p[2] << 8 | p[3];
-}
 
 /* The slot of the next signature, by this replica: kind, cluster name and the fields. */
 static inline void take_slot(struct slot_reader *reader, unsigned replica, uint8_t kind,
@@ -54,7 +50,7 @@ static inline void position(uint8_t fields[40], const uint8_t *records, const ui
                             uint32_t index)
 {
     memcpy(fields, records + 36 * (index - 1), 4);
-    portable_sha256_store(fields + 4, index);
+    write_u32(fields + 4, index);
     memcpy(fields + 8, pointers + 32 * index, 32);
 }
 
@@ -63,7 +59,7 @@ static inline uint8_t *make_pointers(const uint8_t *records, uint32_t count)
 {
     uint8_t *pointers = calloc(count + 1, 32), string[72];
     for (uint32_t i = 1; pointers && i <= count; i++) {
-        portable_sha256_store(string, i);
+        write_u32(string, i);
         memcpy(string + 4, records + 36 * (i - 1), 36);
         memcpy(string + 40, pointers + 32 * (i - 1), 32);
         portable_sha256(string, sizeof string, pointers + 32 * i);
@@ -86,7 +82,7 @@ static inline size_t read_slots(const struct file *roster, const struct file *su
         const uint8_t *vote = reader.at;
         candidates[i] = vote[1];
         reader.at += 48;
-        take_signers(&reader, (unsigned)vote[46] << 8 | vote[47], 3, vote, 46);
+        take_signers(&reader, read_u16(vote + 46), 3, vote, 46);
     }
     for (uint32_t i = 1, leader = 0; i <= count; i++) {
         const uint8_t *record = records + 36 * (i - 1);
@@ -99,7 +95,7 @@ static inline size_t read_slots(const struct file *roster, const struct file *su
         const uint8_t *commit = reader.at;
         position(fields, records, pointers, read_u32(commit));
         reader.at += 6;
-        take_signers(&reader, (unsigned)commit[4] << 8 | commit[5], 2, fields, sizeof fields);
+        take_signers(&reader, read_u16(commit + 4), 2, fields, sizeof fields);
     }
     free(pointers);
     return reader.at == trailer ? reader.count : 0;

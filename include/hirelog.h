@@ -32,7 +32,7 @@ extern "C" {
 #define HIRELOG_SHORT_REPORT 1
 #define HIRELOG_ROSTER_SIZE 2
 #define HIRELOG_KEY_TYPE 3
-#define HIRELOG_DUPLICATE_KEY 4
+#define HIRELOG_DUPLICATE_KEY 4 /* document 01's twin key */
 #define HIRELOG_SIZE 5
 #define HIRELOG_VERSION 6
 #define HIRELOG_CLUSTER 7
@@ -104,8 +104,9 @@ uint32_t hirelog_lms_check(const uint8_t *key, size_t key_len, const uint8_t *me
                            size_t message_len, const uint8_t *signature, size_t signature_len);
 
 /*
- * The audit of two submissions against a roster (document 01): which boards signed statements
- * that contradict each other, and the first index at which both committed different records.
+ * The audit of two submissions against a roster (document 01): which replicas, that paper's boards,
+ * signed statements that contradict each other, and the first index at which both committed
+ * different records.
  *
  * Returns the report's number: HIRELOG_OK if both submissions are accepted, else the first of 1 to
  * 15 that applies, in this order: HIRELOG_SHORT_REPORT, 2 to 4 for the roster, 5 to 15 for the
@@ -115,11 +116,12 @@ uint32_t hirelog_lms_check(const uint8_t *key, size_t key_len, const uint8_t *me
  * first 53 bytes at report are written, and the others are left as they were. All numbers in them
  * are big-endian:
  *   byte 0        the number;
- *   byte 1        where: 1 or 2 for a number of that submission, else 0;
+ *   byte 1        the place (document 01's where): 1 or 2 for a number of that submission, else 0;
  *   bytes 2 to 5  the fork index, 0 if there is none;
- *   bytes 6 to 7  the boards named: bit k - 1, counted from the lowest, is board k;
- *   bytes 8 to 52 nine rows of 5 bytes, for boards 1 to 9: the lowest rule that the board
- *                 broke (1 byte) and the lowest term for it (4 bytes), 0 and 0 if it is not named.
+ *   bytes 6 to 7  the replicas named: bit k - 1, counted from the lowest, is replica k, which has
+ *                 the roster's key k;
+ *   bytes 8 to 52 nine rows of 5 bytes, for replicas 1 to 9: the lowest rule that the replica broke
+ *                 (1 byte) and the lowest term for it (4 bytes), 0 and 0 if it is not named.
  * After a refusal bytes 2 to 52 are 0. The rules, each on one statement from the first submission
  * and one from the second, and the row's term:
  *   1  votes for two candidates in one term; that term;

@@ -1,7 +1,8 @@
 //! Audits two submissions:  cargo run --example audit -- ROSTER FIRST SECOND
 //!
 //! From rust/, with the library built:
-//! HIRELOG_LIB_DIR=../target/staticlib cargo run --example audit -- ../samples/large/{roster,first,second}
+//! HIRELOG_LIB_DIR=../target/staticlib \
+//!     cargo run --example audit -- ../samples/large/{roster,first,second}
 
 use std::{env, fs, process::exit};
 

@@ -47,7 +47,7 @@ pub fn lms_check(key: &[u8], message: &[u8], signature: &[u8]) -> Verdict {
     }
 }
 
-/// The audit of two submissions against a roster: what it finds, or what stops it.
+/// The audit of two submissions against a roster: what it finds, or its refusal.
 pub fn audit(roster: &[u8], first: &[u8], second: &[u8]) -> Result<Findings, Refused> {
     let mut bytes = [0; REPORT_SIZE];
     audit_into(roster, first, second, &mut bytes);
@@ -57,7 +57,8 @@ pub fn audit(roster: &[u8], first: &[u8], second: &[u8]) -> Result<Findings, Ref
 /// The audit as C has it: the number, with the report's bytes in the buffer's first 53. With number
 /// 1, for a shorter buffer, nothing is written.
 pub fn audit_into(roster: &[u8], first: &[u8], second: &[u8], report: &mut [u8]) -> u32 {
-    // SAFETY: each pointer is a slice's, with the slice's length; the report is lent to nobody else.
+    // SAFETY: each pointer is a slice's, with the slice's length; the report is lent to nobody
+    // else.
     unsafe {
         sys::hirelog_audit(
             roster.as_ptr(),

@@ -13,7 +13,8 @@ pub const REPLICAS: usize = 9;
 pub enum Refusal {
     RosterSize = 2,
     KeyType = 3,
-    TwinKey = 4,
+    /// Document 01's twin key: two replicas with one key.
+    DuplicateKey = 4,
     Size = 5,
     Version = 6,
     Cluster = 7,
@@ -31,7 +32,7 @@ pub enum Refusal {
 const REFUSALS: [Refusal; 14] = [
     Refusal::RosterSize,
     Refusal::KeyType,
-    Refusal::TwinKey,
+    Refusal::DuplicateKey,
     Refusal::Size,
     Refusal::Version,
     Refusal::Cluster,
@@ -55,12 +56,12 @@ impl Refusal {
         REFUSALS.into_iter().find(|refusal| refusal.number() == number)
     }
 
-    /// Document 01's word.
+    /// Document 01's word, as its table has it: output quotes the paper.
     pub fn word(self) -> &'static str {
         match self {
             Refusal::RosterSize => "roster size",
             Refusal::KeyType => "key type",
-            Refusal::TwinKey => "twin key",
+            Refusal::DuplicateKey => "twin key",
             Refusal::Size => "size",
             Refusal::Version => "version",
             Refusal::Cluster => "cluster",
@@ -76,7 +77,7 @@ impl Refusal {
     }
 }
 
-/// Where a refusal was found.
+/// The place of a refusal; the value is the report's byte 1 (document 01's where).
 #[derive(Clone, Copy, Debug, PartialEq, Eq)]
 pub enum Place {
     Roster = 0,
@@ -84,7 +85,7 @@ pub enum Place {
     Second = 2,
 }
 
-/// An audit that was stopped.
+/// A refusal, and its place.
 #[derive(Clone, Copy, Debug, PartialEq, Eq)]
 pub struct Refused {
     pub refusal: Refusal,
@@ -116,15 +117,15 @@ pub struct Charge {
 pub struct Findings {
     /// The lowest index, committed in both, whose records differ.
     pub fork: Option<u32>,
-    /// Replica k's charge has place k - 1.
+    /// Replica k's charge is the k-th.
     pub charges: [Option<Charge>; REPLICAS],
 }
 
 impl Findings {
     /// The replicas that are named, from 1, each with its charge.
     pub fn named(&self) -> impl Iterator<Item = (usize, Charge)> + '_ {
-        let numbered = self.charges.iter().enumerate();
-        numbered.filter_map(|(place, charge)| charge.map(|charge| (place + 1, charge)))
+        let numbered = (1..).zip(&self.charges);
+        numbered.filter_map(|(replica, charge)| charge.map(|charge| (replica, charge)))
     }
 }
 
@@ -155,9 +156,9 @@ fn u32_at(bytes: &[u8], at: usize) -> u32 {
 mod tests {
     use super::*;
 
-    /// Each field of a report has its place.
+    /// Each field of a report has its bytes.
     #[test]
-    fn places() {
+    fn fields() {
         let mut bytes = [0; REPORT_SIZE];
         assert_eq!(read_report(&bytes), Some(Ok(Findings { fork: None, charges: [None; 9] })));
         bytes[2..8].copy_from_slice(&[1, 2, 3, 4, 1, 2]);
@@ -174,20 +175,20 @@ mod tests {
     #[test]
     fn refusals() {
         for number in 2..=15 {
-            for (where_, place) in [(0, Place::Roster), (1, Place::First), (2, Place::Second)] {
+            for (byte, place) in [(0, Place::Roster), (1, Place::First), (2, Place::Second)] {
                 let mut bytes = [0; REPORT_SIZE];
-                bytes[..2].copy_from_slice(&[number, where_]);
+                bytes[..2].copy_from_slice(&[number, byte]);
                 let refused = read_report(&bytes).expect("a report").expect_err("refused");
                 assert_eq!((refused.refusal.number(), refused.place), (number, place));
             }
         }
         assert_eq!([0, 1, 16, 255].map(Refusal::of), [None; 4]);
-        for (number, where_) in [(1, 0), (16, 0), (255, 1), (0, 3), (5, 3)] {
+        for (number, place) in [(1, 0), (16, 0), (255, 1), (0, 3), (5, 3)] {
             let mut bytes = [0; REPORT_SIZE];
-            bytes[..2].copy_from_slice(&[number, where_]);
+            bytes[..2].copy_from_slice(&[number, place]);
             assert_eq!(read_report(&bytes), None);
         }
-        let refused = Refused { refusal: Refusal::TwinKey, place: Place::Roster };
+        let refused = Refused { refusal: Refusal::DuplicateKey, place: Place::Roster };
         assert_eq!(refused.to_string(), "twin key in the roster");
     }
 }

@@ -59,7 +59,7 @@ fn digests() {
     assert_eq!(sha256(&vec![0; hirelog::MESSAGE_MAX + 1]), None);
 }
 
-/// A bad signature, a good one (board 1's vote in a sample), and a message that is too long.
+/// A bad signature, a good one (replica 1's vote in a sample), and a message that is too long.
 #[test]
 fn checks() {
     assert_eq!(lms_check(&[], &[], &[]), Verdict::Bad);

@@ -11,22 +11,20 @@
  * right before each, and none of the three can be written.
  */
 #define _GNU_SOURCE
+#include "guarded.h"
 #include "hirelog.h"
 #include "lms_vectors.h"
 
 #include <inttypes.h>
-#include <signal.h>
 #include <stdio.h>
 #include <stdlib.h>
 #include <string.h>
-#include <sys/mman.h>
 #include <unistd.h>
 
 enum { KEY, MESSAGE, SIGNATURE, INPUTS };
-enum place { AT_END, AT_START };
 
 static const char *const input_names[] = {"key", "message", "signature"};
-static const char *const place_names[] = {
+static const char *const side_names[] = {
     "an unreadable page right after each",
     "an unreadable page right before each",
 };
@@ -37,12 +35,7 @@ struct input {
     size_t len;
 };
 
-/* Bytes between two unreadable pages, for each input. */
-static struct room {
-    uint8_t *start;
-    size_t size;
-} rooms[INPUTS];
-
+static struct guarded rooms[INPUTS];
 static struct lms_vector first_good;
 static unsigned long checks; /* calls whose every outcome was checked */
 
@@ -59,15 +52,11 @@ static _Noreturn void fail(const char *what)
     _exit(1);
 }
 
-/* A call that reads or writes where it must not ends here. */
-static void on_fault(int number)
+static _Noreturn void guarded_stop(const char *why, const char *hint)
 {
-    static const char text[] = "lms_test: FAILED: a fault (memory or instruction) in the call\n";
-    ssize_t ignored = write(STDOUT_FILENO, text, sizeof text - 1);
-    ignored = write(STDOUT_FILENO, under_way, strlen(under_way));
-    (void)ignored;
-    (void)number;
-    _exit(1);
+    char text[200];
+    snprintf(text, sizeof text, "the buffers: %s; %s", why, hint);
+    fail(text);
 }
 
 /* ---- one call */
@@ -76,41 +65,23 @@ static void make_rooms(void)
 {
     static const size_t sizes[INPUTS] = {sizeof first_good.key, (size_t)HIRELOG_MESSAGE_MAX + 1,
                                          sizeof first_good.signature + 1};
-    size_t page = (size_t)sysconf(_SC_PAGESIZE);
-    for (int i = 0; i < INPUTS; i++) {
-        size_t size = (sizes[i] + page - 1) / page * page;
-        uint8_t *all = mmap(NULL, size + 2 * page, PROT_NONE, MAP_PRIVATE | MAP_ANONYMOUS, -1, 0);
-        if (all == MAP_FAILED)
-            fail("no memory for the inputs");
-        rooms[i].start = all + page;
-        rooms[i].size = size;
-    }
-}
-
-static void allow(int protection)
-{
     for (int i = 0; i < INPUTS; i++)
-        if (mprotect(rooms[i].start, rooms[i].size, protection) != 0)
-            fail("the protection of the inputs cannot be changed");
+        guarded_make(&rooms[i], input_names[i], sizes[i]);
 }
 
 /* Calls the function once on copies of the inputs and checks the number that it returns. */
-static void check_call(const struct input inputs[INPUTS], enum place place, uint32_t want)
+static void check_call(const struct input inputs[INPUTS], enum guarded_side side, uint32_t want)
 {
-    const uint8_t *copies[INPUTS];
-    allow(PROT_READ | PROT_WRITE);
+    const uint8_t *lent[INPUTS];
     for (int i = 0; i < INPUTS; i++) {
-        uint8_t *copy = rooms[i].start + (place == AT_END ? rooms[i].size - inputs[i].len : 0);
-        if (inputs[i].len > 0)
-            memcpy(copy, inputs[i].bytes, inputs[i].len);
-        copies[i] = inputs[i].bytes ? copy : NULL;
+        const uint8_t *copy = guarded_lend(&rooms[i], inputs[i].bytes, inputs[i].len, side);
+        lent[i] = inputs[i].bytes ? copy : NULL;
     }
-    allow(PROT_READ);
 
     snprintf(under_way, sizeof under_way, "  %s, lengths %zu, %zu and %zu, %s\n", part,
-             inputs[KEY].len, inputs[MESSAGE].len, inputs[SIGNATURE].len, place_names[place]);
-    uint32_t number = hirelog_lms_check(copies[KEY], inputs[KEY].len, copies[MESSAGE],
-                                        inputs[MESSAGE].len, copies[SIGNATURE],
+             inputs[KEY].len, inputs[MESSAGE].len, inputs[SIGNATURE].len, side_names[side]);
+    uint32_t number = hirelog_lms_check(lent[KEY], inputs[KEY].len, lent[MESSAGE],
+                                        inputs[MESSAGE].len, lent[SIGNATURE],
                                         inputs[SIGNATURE].len);
 
     if (number != want) {
@@ -121,11 +92,11 @@ static void check_call(const struct input inputs[INPUTS], enum place place, uint
     checks++;
 }
 
-/* The same inputs at the end of their rooms and at the start. */
+/* The same inputs before an unreadable page each, and after one. */
 static void check_both(const struct input inputs[INPUTS], uint32_t want)
 {
-    check_call(inputs, AT_END, want);
-    check_call(inputs, AT_START, want);
+    check_call(inputs, PAGE_AFTER, want);
+    check_call(inputs, PAGE_BEFORE, want);
 }
 
 /* ---- the parts */
@@ -172,7 +143,7 @@ static void check_every_byte(int which)
         uint8_t bit = (uint8_t)(1 << i % 8);
         snprintf(part, sizeof part, "byte %zu of the %s changed", i, input_names[which]);
         changed[i] ^= bit;
-        check_call(inputs, AT_END, HIRELOG_BAD_SIGNATURE);
+        check_call(inputs, PAGE_AFTER, HIRELOG_BAD_SIGNATURE);
         changed[i] ^= bit;
     }
 }
@@ -227,10 +198,7 @@ int main(int argc, char **argv)
         printf("usage: lms_test VECTORS...\n");
         return 1;
     }
-    signal(SIGSEGV, on_fault);
-    signal(SIGBUS, on_fault);
-    signal(SIGILL, on_fault);
-    signal(SIGFPE, on_fault);
+    guarded_watch("lms_test", under_way);
     make_rooms();
 
     for (int i = 1; i < argc; i++) {

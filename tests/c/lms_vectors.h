@@ -1,14 +1,13 @@
 /*
  * Reads the files of LMS vectors. A line is a name, 1 for a good signature and 0 for a bad one, the
  * key, the message and the signature in hex; - stands for no bytes.
+ * Before any header: #define _GNU_SOURCE
  */
 #ifndef LMS_VECTORS_H
 #define LMS_VECTORS_H
 
 #include "hex.h"
-
-#include <stdio.h>
-#include <stdlib.h>
+#include "lines.h"
 
 struct lms_vector {
     char name[100];
@@ -42,28 +41,14 @@ static int read_lms_vector(char *line, struct lms_vector *vector)
 static const char *for_each_lms_vector(const char *path, void (*use)(const struct lms_vector *))
 {
     static struct lms_vector vector;
-    static char problem[400];
-    char *line = NULL;
-    size_t line_room = 0;
-    unsigned long lines = 0;
-    FILE *file = fopen(path, "r");
-    problem[0] = '\0';
-    if (!file) {
-        snprintf(problem, sizeof problem, "cannot open %s", path);
-        return problem;
+    struct lines lines;
+    open_lines(&lines, path);
+    while (next_line(&lines)) {
+        if (!read_lms_vector(lines.text, &vector))
+            return close_lines(&lines, "an LMS vector");
+        use(&vector);
     }
-    while (problem[0] == '\0' && getline(&line, &line_room, file) > 0) {
-        lines++;
-        if (read_lms_vector(line, &vector))
-            use(&vector);
-        else
-            snprintf(problem, sizeof problem, "%s line %lu is not an LMS vector", path, lines);
-    }
-    if (problem[0] == '\0' && (ferror(file) || lines == 0))
-        snprintf(problem, sizeof problem, "%s has no line, or is unreadable", path);
-    free(line);
-    fclose(file);
-    return problem[0] == '\0' ? NULL : problem;
+    return close_lines(&lines, NULL);
 }
 
 #endif

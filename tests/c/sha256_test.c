@@ -8,46 +8,56 @@
  * from that seed again. The first failure is printed, and the exit status is then 1.
  *
  * In every call an unreadable page stands right after the message, or right before it, and the
- * digest stands between guard bytes.
+ * message cannot be written. The digest stands among guard bytes, an unreadable page at most 15
+ * bytes from it, so that every alignment has its turn.
  */
 #define _GNU_SOURCE
+#include "guarded.h"
 #include "hex.h"
 #include "hirelog.h"
+#include "lines.h"
 
 #include <openssl/sha.h>
 
 #include <inttypes.h>
-#include <signal.h>
+#include <stdarg.h>
 #include <stdio.h>
 #include <stdlib.h>
 #include <string.h>
-#include <sys/mman.h>
 #include <sys/random.h>
 #include <unistd.h>
 
-enum { GUARD = 64, AREA = GUARD + 32 + 16 + GUARD };
-enum place { AT_END, AT_START, AT_NULL };
+enum { DIGEST = HIRELOG_DIGEST_SIZE, ALIGNMENTS = 16 };
 
-static const char *const place_names[] = {
+static const char *const side_names[] = {
     "the unreadable page right after the message",
     "the unreadable page right before the message",
-    "the message NULL",
 };
 
-static uint8_t *room, *room_end; /* readable bytes between two unreadable pages */
-static unsigned long checks;     /* calls whose every outcome was checked */
+static struct guarded message_room, digest_room;
+static unsigned long checks; /* calls whose every outcome was checked */
 
 /* What is being tried, for a failure's report. */
-static const char *part = "set-up";
+static char part[300] = "set-up";
 static uint64_t part_seed;
 static char under_way[400];
 
 /* ---- reports */
 
+/* Says what is tried from now on, and from which seed. */
+__attribute__((format(printf, 2, 3))) static void set_part(uint64_t seed, const char *format, ...)
+{
+    va_list values;
+    va_start(values, format);
+    vsnprintf(part, sizeof part, format, values);
+    va_end(values);
+    part_seed = seed;
+}
+
 static void print_hex(const char *name, const uint8_t *bytes)
 {
     printf("  %s ", name);
-    for (int i = 0; i < 32; i++)
+    for (int i = 0; i < DIGEST; i++)
         printf("%02x", bytes[i]);
     printf("\n");
 }
@@ -63,15 +73,11 @@ static _Noreturn void fail(const char *what, const uint8_t *got, const uint8_t *
     _exit(1);
 }
 
-/* A call that reads or writes where it must not ends here. */
-static void on_fault(int number)
+static _Noreturn void guarded_stop(const char *why, const char *hint)
 {
-    static const char text[] = "sha256_test: FAILED: a fault (memory or instruction) in the call\n";
-    ssize_t ignored = write(STDOUT_FILENO, text, sizeof text - 1);
-    ignored = write(STDOUT_FILENO, under_way, strlen(under_way));
-    (void)ignored;
-    (void)number;
-    _exit(1);
+    char text[200];
+    snprintf(text, sizeof text, "the buffers: %s; %s", why, hint);
+    fail(text, NULL, NULL);
 }
 
 /* ---- pseudo-random bytes (splitmix64) */
@@ -92,67 +98,58 @@ static void fill_random(uint64_t *state, uint8_t *bytes, size_t len)
 
 /* ---- one call */
 
-static void make_room(void)
+/* Holds the bytes at and around the digest to what they must be: want, or NULL for as before. */
+static void check_digest(const uint8_t *digest, const uint8_t before[DIGEST], const uint8_t *want)
 {
-    size_t page = (size_t)sysconf(_SC_PAGESIZE);
-    size_t size = ((size_t)HIRELOG_MESSAGE_MAX / page + 1) * page;
-    uint8_t *all = mmap(NULL, size + 2 * page, PROT_NONE, MAP_PRIVATE | MAP_ANONYMOUS, -1, 0);
-    if (all == MAP_FAILED || mprotect(all + page, size, PROT_READ | PROT_WRITE) != 0)
-        fail("no memory for the messages", NULL, NULL);
-    room = all + page;
-    room_end = room + size;
+    ptrdiff_t at;
+    if (!want && memcmp(digest, before, DIGEST) != 0)
+        fail("the digest is not as it was", digest, before);
+    if (want && memcmp(digest, want, DIGEST) != 0)
+        fail("a wrong digest", digest, want);
+    if (guarded_changed(&digest_room, DIGEST, &at)) {
+        char text[80];
+        snprintf(text, sizeof text, "byte %td of the digest (it has %d) was written", at, DIGEST);
+        fail(text, NULL, NULL);
+    }
 }
 
 /*
- * Calls the function once on a copy of the message and checks the number returned, the digest
- * (want, or NULL where it must stay as it was), the bytes around the digest and the message.
+ * Calls the function once on a copy of the message, or NULL for NULL, and checks the number
+ * returned and the digest: want, or NULL where it must stay as it was.
  */
-static void check_call(const uint8_t *message, size_t len, enum place place, uint32_t want_number,
-                       const uint8_t *want)
+static void check_call(const uint8_t *message, size_t len, enum guarded_side side,
+                       uint32_t want_number, const uint8_t *want)
 {
-    static uint64_t area_random = 1;
-    uint8_t area[AREA], before[AREA];
-    fill_random(&area_random, before, AREA);
-    memcpy(area, before, AREA);
-    uint8_t *digest = area + GUARD + checks % 16; /* every alignment in turn */
-    size_t at = (size_t)(digest - area);
-
-    uint8_t *copy = place == AT_NULL ? NULL : place == AT_END ? room_end - len : room;
-    if (len > 0)
-        memcpy(copy, message, len);
+    uint8_t before[DIGEST];
+    const uint8_t *lent = message ? guarded_lend(&message_room, message, len, side) : NULL;
+    uint8_t *digest = guarded_offer(&digest_room, DIGEST, side, checks / 2 % ALIGNMENTS);
+    memcpy(before, digest, DIGEST);
 
     snprintf(under_way, sizeof under_way, "  %s, seed %" PRIu64 ", length %zu, %s\n", part,
-             part_seed, len, place_names[place]);
-    uint32_t number = hirelog_sha256(copy, len, digest);
+             part_seed, len, lent ? side_names[side] : "the message NULL");
+    uint32_t number = hirelog_sha256(lent, len, digest);
 
     if (number != want_number) {
         char text[80];
-        snprintf(text, sizeof text, "number %" PRIu32 " returned, not %" PRIu32, number, want_number);
+        snprintf(text, sizeof text, "number %" PRIu32 " returned, not %" PRIu32, number,
+                 want_number);
         fail(text, NULL, NULL);
     }
-    if (!want && memcmp(digest, before + at, 32) != 0)
-        fail("the digest is not as it was", digest, before + at);
-    if (want && memcmp(digest, want, 32) != 0)
-        fail("a wrong digest", digest, want);
-    if (memcmp(area, before, at) != 0)
-        fail("bytes before the digest were written", NULL, NULL);
-    if (memcmp(digest + 32, before + at + 32, AREA - at - 32) != 0)
-        fail("bytes after the digest were written", NULL, NULL);
-    if (len > 0 && memcmp(copy, message, len) != 0)
-        fail("the message was changed", NULL, NULL);
+    check_digest(digest, before, want);
     checks++;
 }
 
-/* The same message at the end of the room and at its start. */
-static void check_both(const uint8_t *message, size_t len, uint32_t want_number, const uint8_t *want)
+/* The same message before an unreadable page and after one. */
+static void check_both(const uint8_t *message, size_t len, uint32_t want_number,
+                       const uint8_t *want)
 {
-    check_call(message, len, AT_END, want_number, want);
-    check_call(message, len, AT_START, want_number, want);
+    check_call(message, len, PAGE_AFTER, want_number, want);
+    check_call(message, len, PAGE_BEFORE, want_number, want);
 }
 
 static void check_with_openssl(const uint8_t *message, size_t len)
 {
-    uint8_t want[32];
+    uint8_t want[DIGEST];
     if (!SHA256(message, len, want))
         fail("OpenSSL gave no digest", NULL, NULL);
     check_both(message, len, HIRELOG_OK, want);
@@ -160,48 +157,44 @@ static void check_with_openssl(const uint8_t *message, size_t len)
 
 /* ---- the parts */
 
+/* Takes a line apart into message and digest; the message's length, or -1 if it is not that. */
+static long read_vector(char *line, uint8_t *message, size_t room_len, uint8_t digest[DIGEST])
+{
+    char *rest = NULL;
+    char *hex_message = strtok_r(line, " \n", &rest);
+    char *hex_digest = strtok_r(NULL, " \n", &rest);
+    if (!hex_message || !hex_digest || strtok_r(NULL, " \n", &rest) ||
+        decode_hex(hex_digest, digest, DIGEST) != DIGEST)
+        return -1;
+    return decode_hex(hex_message, message, room_len);
+}
+
 static void check_vectors(const char *path)
 {
     static uint8_t message[1 << 16];
-    uint8_t want[32];
-    char *line = NULL;
-    size_t line_room = 0;
-    unsigned long lines = 0;
-    FILE *file = fopen(path, "r");
-    part_seed = 0;
-    if (!file) {
-        snprintf(under_way, sizeof under_way, "  %s\n", path);
-        fail("cannot open a vector file", NULL, NULL);
+    uint8_t want[DIGEST];
+    const char *wanted = NULL;
+    struct lines lines;
+    open_lines(&lines, path);
+    while (!wanted && next_line(&lines)) {
+        long len = read_vector(lines.text, message, sizeof message, want);
+        set_part(0, "%s line %lu", path, lines.number);
+        if (len < 0)
+            wanted = "a message and a digest";
+        else
+            check_both(message, (size_t)len, HIRELOG_OK, want);
     }
-    while (getline(&line, &line_room, file) > 0) {
-        char name[300];
-        snprintf(name, sizeof name, "%s line %lu", path, ++lines);
-        part = name;
-        char *rest = NULL;
-        char *hex_message = strtok_r(line, " \n", &rest);
-        char *hex_digest = strtok_r(NULL, " \n", &rest);
-        long len = hex_message ? decode_hex(hex_message, message, sizeof message) : -1;
-        if (len < 0 || !hex_digest || decode_hex(hex_digest, want, 32) != 32 ||
-            strtok_r(NULL, " \n", &rest)) {
-            snprintf(under_way, sizeof under_way, "  %s\n", name);
-            fail("not a line of a message and a digest", NULL, NULL);
-        }
-        check_both(message, (size_t)len, HIRELOG_OK, want);
+    const char *problem = close_lines(&lines, wanted);
+    if (problem) {
+        under_way[0] = '\0';
+        fail(problem, NULL, NULL);
     }
-    part = "";
-    if (ferror(file) || lines == 0) {
-        snprintf(under_way, sizeof under_way, "  %s\n", path);
-        fail("a vector file with no line, or unreadable", NULL, NULL);
-    }
-    free(line);
-    fclose(file);
 }
 
 static void check_every_length(void)
 {
-    part = "every length";
-    part_seed = 300;
-    uint64_t random = part_seed;
+    uint64_t random = 300;
+    set_part(random, "every length");
     uint8_t message[300];
     for (size_t len = 0; len <= sizeof message; len++) {
         fill_random(&random, message, len);
@@ -211,20 +204,19 @@ static void check_every_length(void)
 
 static void check_null(void)
 {
-    part = "no message";
-    part_seed = 0;
-    uint8_t want[32];
+    uint8_t want[DIGEST];
+    set_part(0, "no message");
     if (!SHA256((const uint8_t *)"", 0, want))
         fail("OpenSSL gave no digest", NULL, NULL);
-    check_call(NULL, 0, AT_NULL, HIRELOG_OK, want);
+    check_call(NULL, 0, PAGE_AFTER, HIRELOG_OK, want);
+    check_call(NULL, 0, PAGE_BEFORE, HIRELOG_OK, want);
 }
 
 /* The longest message, and one byte more. */
 static void check_limit(void)
 {
-    part = "the limit";
-    part_seed = 16;
-    uint64_t random = part_seed;
+    uint64_t random = 16;
+    set_part(random, "the limit");
     size_t max = HIRELOG_MESSAGE_MAX;
     uint8_t *message = malloc(max + 1);
     if (!message)
@@ -237,8 +229,7 @@ static void check_limit(void)
 
 static void check_random(const char *name, uint64_t seed, int count)
 {
-    part = name;
-    part_seed = seed;
+    set_part(seed, "%s", name);
     uint64_t random = seed;
     uint8_t message[4096];
     for (int i = 0; i < count; i++) {
@@ -270,11 +261,9 @@ int main(int argc, char **argv)
         printf("usage: sha256_test VECTORS...\n");
         return 1;
     }
-    signal(SIGSEGV, on_fault);
-    signal(SIGBUS, on_fault);
-    signal(SIGILL, on_fault);
-    signal(SIGFPE, on_fault);
-    make_room();
+    guarded_watch("sha256_test", under_way);
+    guarded_make(&message_room, "message", (size_t)HIRELOG_MESSAGE_MAX + 1);
+    guarded_make(&digest_room, "digest", DIGEST + ALIGNMENTS - 1);
     uint64_t seed = fresh_seed();
     printf("sha256_test: fresh seed %" PRIu64 " (again: SEED=%" PRIu64 ")\n", seed, seed);
     fflush(stdout);

@@ -2,27 +2,36 @@
  * A libFuzzer harness of hirelog_audit; tests/fuzz/run builds it and runs it.
  *
  * An input is the roster's length (2 bytes), the first submission's (4 bytes), the report's (2
- * bytes), all big-endian, then roster, first and second. A length that is too large takes what there
- * is. A mutation changes one of the parts and writes the lengths anew.
+ * bytes), all big-endian, then roster, first and second. A length that is too large takes what
+ * there is. A mutation changes one of the parts and writes the lengths anew.
  *
- * The parts are lent as parts.h says, by the lowest bits of the report's length. Number, report and
- * the bytes after it have to be those of the separately written auditor. The library has no counters
- * of its own, so what leads the fuzzer on is the auditor's branches, and what the audit says: its
- * number and place, and each replica's rule. Of a report these rules of document 01 are checked by
- * themselves besides: the bytes after it stay, a refusal has nothing but number and place, a fork
- * names somebody, a submission audited beside itself names nobody, and exchanging the submissions
- * keeps the fork and the replicas named.
+ * The parts are lent as parts.h says, by the lowest bits of the report's length, and the report
+ * stands at an unreadable page as they do, among guard bytes. Number, report and the bytes after it
+ * have to be those of the separately written auditor. The library has no counters of its own, so
+ * what leads the fuzzer on is the auditor's branches, and what the audit says: its number and
+ * place, and each replica's rule. Of a report these rules of document 01 are checked by themselves
+ * besides: the bytes around it stay, a refusal has nothing but number and place, a fork names
+ * somebody, a submission audited beside itself names nobody, and exchanging the submissions keeps
+ * the fork and the replicas named.
  */
 #define _GNU_SOURCE
 #include "hirelog.h"
 #include "parts.h"
+#include "report.h"
 
 enum { ROSTER, FIRST, SECOND };
 enum { HEAD = 8, REPORT_ROOM = 256 };
 
-/* What libFuzzer counts as new beside the branches. */
+/* Document 01's numbers: places of a refusal, rules, records of a log, where a roster has n. */
+enum { PLACES = 3, RULES = 4, RECORDS_MOST = 4096, REPLICAS_AT = 16 };
+
+/*
+ * What libFuzzer counts as new beside the branches: each number in each place, then each
+ * replica's rule.
+ */
+enum { SEEN_RULES = PLACES * (HIRELOG_BAD_SIGNATURE + 1) };
 __attribute__((used, section("__libfuzzer_extra_counters"))) static volatile uint8_t
-    seen[16 * 3 + 9 * 5];
+    seen[SEEN_RULES + REPLICAS_MOST * (RULES + 1)];
 
 struct input {
     const uint8_t *parts[PARTS];
@@ -36,10 +45,9 @@ static int read_input(const uint8_t *data, size_t size, struct input *input)
     if (size < HEAD)
         return 0;
     size_t left = size - HEAD;
-    size_t first_len = (size_t)data[2] << 24 | (size_t)data[3] << 16 | (size_t)data[4] << 8 | data[5];
-    input->report_len = ((size_t)data[6] << 8 | data[7]) % REPORT_ROOM;
-    input->lens[ROSTER] = take((size_t)data[0] << 8 | data[1], &left);
-    input->lens[FIRST] = take(first_len, &left);
+    input->report_len = read_u16(data + 6) % REPORT_ROOM;
+    input->lens[ROSTER] = take(read_u16(data), &left);
+    input->lens[FIRST] = take(read_u32(data + 2), &left);
     input->lens[SECOND] = left;
     input->parts[ROSTER] = data + HEAD;
     input->parts[FIRST] = input->parts[ROSTER] + input->lens[ROSTER];
@@ -49,12 +57,10 @@ static int read_input(const uint8_t *data, size_t size, struct input *input)
 
 static size_t write_input(const struct input *input, uint8_t *data)
 {
-    size_t first_len = input->lens[FIRST], at = HEAD;
-    uint8_t head[HEAD] = {(uint8_t)(input->lens[ROSTER] >> 8), (uint8_t)input->lens[ROSTER],
-                          (uint8_t)(first_len >> 24),          (uint8_t)(first_len >> 16),
-                          (uint8_t)(first_len >> 8),           (uint8_t)first_len,
-                          (uint8_t)(input->report_len >> 8),   (uint8_t)input->report_len};
-    memcpy(data, head, HEAD);
+    size_t at = HEAD;
+    write_u16(data, (uint16_t)input->lens[ROSTER]);
+    write_u32(data + 2, (uint32_t)input->lens[FIRST]);
+    write_u16(data + 6, (uint16_t)input->report_len);
     for (int i = 0; i < PARTS; i++) {
         memcpy(data + at, input->parts[i], input->lens[i]);
         at += input->lens[i];
@@ -92,73 +98,73 @@ size_t LLVMFuzzerCustomMutator(uint8_t *data, size_t size, size_t max_size, unsi
 
 /* ---- a call */
 
+/* How many bytes of the report are written with a number. */
+static size_t written(uint32_t number)
+{
+    return number == HIRELOG_SHORT_REPORT ? 0 : HIRELOG_REPORT_SIZE;
+}
+
 /* The number and the report of both, which have to be the same. */
 static uint32_t call(const struct input *input, uint8_t report[REPORT_ROOM])
 {
+    static struct guarded room;
     const uint8_t *lent[PARTS];
     uint8_t expected[REPORT_ROOM];
+    ptrdiff_t at;
+    if (!room.pages)
+        guarded_make(&room, "report", REPORT_ROOM);
     lend(input->parts, input->lens, input->report_len, lent);
-    memset(report, 0xa5, REPORT_ROOM);
-    memset(expected, 0xa5, REPORT_ROOM);
+    uint8_t *offered = guarded_offer(&room, input->report_len, side_of(input->report_len), 0);
+    memcpy(expected, offered, input->report_len);
     uint32_t number =
         hirelog_audit(lent[ROSTER], input->lens[ROSTER], lent[FIRST], input->lens[FIRST],
-                      lent[SECOND], input->lens[SECOND], report, input->report_len);
+                      lent[SECOND], input->lens[SECOND], offered, input->report_len);
     if (number != auditor_audit(input->parts[ROSTER], input->lens[ROSTER], input->parts[FIRST],
                                 input->lens[FIRST], input->parts[SECOND], input->lens[SECOND],
                                 expected, input->report_len))
         fail("another number than the auditor's");
-    if (memcmp(report, expected, REPORT_ROOM) != 0)
+    if (memcmp(offered, expected, input->report_len) != 0)
         fail("another report than the auditor's, or other bytes after it");
+    if (guarded_changed(&room, written(number), &at))
+        fail("a byte before or after the report was written");
+    memcpy(report, offered, input->report_len);
     return number;
 }
 
 /* ---- what must hold */
 
-static uint32_t number_at(const uint8_t *p, int len)
-{
-    uint32_t number = 0;
-    while (len-- > 0)
-        number = number << 8 | *p++;
-    return number;
-}
-
 static void check_rows(const uint8_t *report, unsigned replicas)
 {
-    uint32_t named = number_at(report + 6, 2);
+    unsigned named = report_named(report);
     if (named >> replicas != 0)
         fail("a replica named that the roster does not have");
-    for (unsigned k = 0; k < 9; k++) {
-        const uint8_t *row = report + 8 + 5 * k;
-        uint32_t rule = row[0], term = number_at(row + 1, 4);
-        if (named >> k & 1 ? rule < 1 || rule > 4 || term == 0 : rule != 0 || term != 0)
+    for (unsigned k = 1; k <= REPLICAS_MOST; k++) {
+        uint32_t rule = report_rule(report, k), term = report_term(report, k);
+        if (named >> (k - 1) & 1 ? rule < 1 || rule > RULES || term == 0 : rule != 0 || term != 0)
             fail("a row that does not go with the replicas named");
-        if (rule <= 4)
-            seen[16 * 3 + 5 * k + rule] = 1;
+        if (rule <= RULES)
+            seen[SEEN_RULES + (RULES + 1) * (k - 1) + rule] = 1;
     }
 }
 
 static void check_report(const struct input *input, uint32_t number, const uint8_t *report)
 {
-    size_t written = number == HIRELOG_SHORT_REPORT ? 0 : HIRELOG_REPORT_SIZE;
     if ((number == HIRELOG_SHORT_REPORT) != (input->report_len < HIRELOG_REPORT_SIZE))
         fail("number 1 for a long report, or another for a short one");
-    for (size_t i = written; i < REPORT_ROOM; i++)
-        if (report[i] != 0xa5)
-            fail("a byte after the report was written");
-    if (written == 0)
+    if (number == HIRELOG_SHORT_REPORT)
         return;
-    unsigned place = report[1];
-    if (number > HIRELOG_BAD_SIGNATURE || report[0] != number || place > 2 ||
+    unsigned place = report[PLACE_AT];
+    if (number > HIRELOG_BAD_SIGNATURE || report[NUMBER_AT] != number || place >= PLACES ||
         (number >= HIRELOG_SIZE) != (place > 0))
         fail("a number or a place that there is not");
-    seen[3 * number + place] = 1;
-    for (size_t i = 2; number != HIRELOG_OK && i < written; i++)
+    seen[PLACES * number + place] = 1;
+    for (size_t i = FORK_AT; number != HIRELOG_OK && i < HIRELOG_REPORT_SIZE; i++)
         if (report[i] != 0)
             fail("more than number and place after a refusal");
     if (number == HIRELOG_OK) {
-        check_rows(report, input->parts[ROSTER][17]);
-        if (number_at(report + 2, 4) > 4096 ||
-            (number_at(report + 2, 4) != 0 && number_at(report + 6, 2) == 0))
+        check_rows(report, read_u16(input->parts[ROSTER] + REPLICAS_AT));
+        if (report_fork(report) > RECORDS_MOST ||
+            (report_fork(report) != 0 && report_named(report) == 0))
             fail("a fork past the log's end, or one that names nobody");
     }
 }
@@ -177,7 +183,7 @@ static void check_again(const struct input *input, const uint8_t *report)
     }
     other.parts[FIRST] = input->parts[SECOND], other.lens[FIRST] = input->lens[SECOND];
     other.parts[SECOND] = input->parts[FIRST], other.lens[SECOND] = input->lens[FIRST];
-    if (call(&other, again) != HIRELOG_OK || memcmp(again, report, 8) != 0)
+    if (call(&other, again) != HIRELOG_OK || memcmp(again, report, ROWS_AT) != 0)
         fail("another fork, or other replicas named, where the submissions are exchanged");
 }
 

@@ -1,18 +1,19 @@
 /*
  * A libFuzzer harness of hirelog_lms_check; tests/fuzz/run builds it and runs it.
  *
- * An input is the key's length (1 byte), the message's (2 bytes, big-endian), how the parts are lent
- * (1 byte, parts.h), then key, message and signature. A length that is too large takes what there is.
- * A mutation changes one of the parts, or gives key and signature types that are known and the
- * signature their length, or takes another leaf number, and writes the lengths anew.
+ * An input is the key's length (1 byte), the message's (2 bytes, big-endian), how the parts are
+ * lent (1 byte, parts.h), then key, message and signature. A length that is too large takes what
+ * there is. A mutation changes one of the parts, or gives key and signature types that are known
+ * and the signature their length, or takes another leaf number, and writes the lengths anew.
  *
  * The number has to be that of the separately written auditor, whose branches lead the fuzzer on,
  * with the types of the signatures that lead to a root. Such a signature is hardly ever good once
- * something has been changed, so the auditor's root is then put into the key: now it has to be good,
- * which it is only if the library comes to the same root; and with one bit of that changed, or with a
- * byte more or fewer of key or signature, it has to be bad.
+ * something has been changed, so the auditor's root is then put into the key: now it has to be
+ * good, which it is only if the library comes to the same root; and with one bit of that changed,
+ * or with a byte more or fewer of key or signature, it has to be bad.
  */
 #define _GNU_SOURCE
+#include "big_endian.h"
 #include "hirelog.h"
 #include "parts.h"
 
@@ -20,7 +21,8 @@ enum { KEY, MESSAGE, SIGNATURE };
 enum { HEAD = 4, KEY_SIZE = HIRELOG_LMS_KEY_SIZE, ROOT_AT = 24 };
 
 /* What libFuzzer counts as new beside the branches. */
-__attribute__((used, section("__libfuzzer_extra_counters"))) static volatile uint8_t seen[5 * 4 * 2];
+__attribute__((used, section("__libfuzzer_extra_counters"))) static volatile uint8_t
+    seen[5 * 4 * 2];
 
 struct input {
     const uint8_t *parts[PARTS];
@@ -37,7 +39,7 @@ static int read_input(const uint8_t *data, size_t size, struct input *input)
     size_t left = size - HEAD;
     input->how = data[3];
     input->lens[KEY] = take(data[0], &left);
-    input->lens[MESSAGE] = take((size_t)data[1] << 8 | data[2], &left);
+    input->lens[MESSAGE] = take(read_u16(data + 1), &left);
     input->lens[SIGNATURE] = left;
     input->parts[KEY] = data + HEAD;
     input->parts[MESSAGE] = input->parts[KEY] + input->lens[KEY];
@@ -52,8 +54,7 @@ static size_t write_input(const struct input *input, uint8_t *data, size_t size,
     if (HEAD + input->lens[KEY] + input->lens[MESSAGE] + input->lens[SIGNATURE] > max_size)
         return size;
     data[0] = (uint8_t)input->lens[KEY];
-    data[1] = (uint8_t)(input->lens[MESSAGE] >> 8);
-    data[2] = (uint8_t)input->lens[MESSAGE];
+    write_u16(data + 1, (uint16_t)input->lens[MESSAGE]);
     data[3] = input->how;
     for (int i = 0; i < PARTS; i++) {
         memcpy(data + at, input->parts[i], input->lens[i]);
@@ -62,23 +63,17 @@ static size_t write_input(const struct input *input, uint8_t *data, size_t size,
     return at;
 }
 
-static void put_u32(uint8_t *at, uint32_t number)
-{
-    for (int i = 0; i < 4; i++)
-        at[i] = (uint8_t)(number >> (24 - 8 * i));
-}
-
 /* Known types in key and signature, a leaf number of that tree, and the length that they give. */
 static void give_types(uint8_t *key, uint8_t *signature, size_t *signature_len, unsigned seed)
 {
     static const size_t chains[4] = {265, 133, 67, 34};
     unsigned one_time = seed % 4, tree = seed / 4 % 5, height = 5 * (tree + 1);
     size_t type_at = 8 + 32 * (chains[one_time] + 1);
-    put_u32(key, 5 + tree);
-    put_u32(key + 4, 1 + one_time);
-    put_u32(signature, seed / 20 & ((1u << height) - 1));
-    put_u32(signature + 4, 1 + one_time);
-    put_u32(signature + type_at, 5 + tree);
+    write_u32(key, 5 + tree);
+    write_u32(key + 4, 1 + one_time);
+    write_u32(signature, seed / 20 & ((1u << height) - 1));
+    write_u32(signature + 4, 1 + one_time);
+    write_u32(signature + type_at, 5 + tree);
     *signature_len = type_at + 4 + 32 * height;
 }
 
@@ -103,7 +98,7 @@ size_t LLVMFuzzerCustomMutator(uint8_t *data, size_t size, size_t max_size, unsi
         input.lens[KEY] = KEY_SIZE;
         give_types(parts[KEY], parts[SIGNATURE], &input.lens[SIGNATURE], seed);
     } else if (choice == 2) {
-        put_u32(parts[SIGNATURE], seed % 2 ? seed / 2 : 1u << seed / 2 % 32);
+        write_u32(parts[SIGNATURE], seed % 2 ? seed / 2 : 1u << seed / 2 % 32);
     } else {
         int which = choice < 5 ? KEY : choice < 9 ? MESSAGE : SIGNATURE;
         size_t others = size - input.lens[which], most = max_size - others;
@@ -164,7 +159,8 @@ int LLVMFuzzerTestOneInput(const uint8_t *data, size_t size)
                                     input.lens[SIGNATURE]))
         fail("another number than the auditor's");
     if (auditor_lms_root(input.parts[KEY], input.lens[KEY], input.parts[MESSAGE],
-                         input.lens[MESSAGE], input.parts[SIGNATURE], input.lens[SIGNATURE], root)) {
+                         input.lens[MESSAGE], input.parts[SIGNATURE], input.lens[SIGNATURE],
+                         root)) {
         int tree = input.parts[KEY][3] - 5, one_time = input.parts[KEY][7] - 1;
         seen[2 * (4 * tree + one_time) + (number == HIRELOG_OK)] = 1;
         check_root(&input, root);

@@ -1,17 +1,17 @@
 /*
- * What the harnesses have in common: an input of three parts, lent to the library between
- * unreadable pages, and the auditor (auditor.rs). Before any header: #define _GNU_SOURCE
+ * What the harnesses have in common: an input of three parts, lent to the library among unreadable
+ * pages, and the auditor (auditor.rs). Before any header: #define _GNU_SOURCE
  */
 #ifndef PARTS_H
 #define PARTS_H
+
+#include "guarded.h"
 
 #include <stddef.h>
 #include <stdint.h>
 #include <stdio.h>
 #include <stdlib.h>
 #include <string.h>
-#include <sys/mman.h>
-#include <unistd.h>
 
 enum { PARTS = 3, ROOM = 1 << 17 };
 
@@ -32,6 +32,12 @@ static _Noreturn void fail(const char *what)
     abort();
 }
 
+static _Noreturn void guarded_stop(const char *why, const char *hint)
+{
+    fprintf(stderr, "fuzz: the buffers: %s; %s\n", why, hint);
+    abort();
+}
+
 static size_t take(size_t wanted, size_t *left)
 {
     size_t taken = wanted < *left ? wanted : *left;
@@ -39,33 +45,23 @@ static size_t take(size_t wanted, size_t *left)
     return taken;
 }
 
-/* Bytes between two unreadable pages. */
-static uint8_t *room(void)
+/* How buffers are lent: each ends at an unreadable page or, with bit 0 of how, begins after one. */
+static enum guarded_side side_of(size_t how)
 {
-    size_t page = (size_t)sysconf(_SC_PAGESIZE);
-    uint8_t *all = mmap(NULL, ROOM + 2 * page, PROT_NONE, MAP_PRIVATE | MAP_ANONYMOUS, -1, 0);
-    if (all == MAP_FAILED)
-        fail("no memory");
-    return all + page;
+    return how & 1 ? PAGE_BEFORE : PAGE_AFTER;
 }
 
-/*
- * Copies the parts to where nothing can be written. Each ends at an unreadable page or, with bit 0
- * of how, begins after one; with bit 1 NULL stands for one of no bytes.
- */
+/* Lends copies of the parts so; with bit 1 of how NULL stands for one of no bytes. */
 static void lend(const uint8_t *const parts[PARTS], const size_t lens[PARTS], size_t how,
                  const uint8_t *lent[PARTS])
 {
-    static uint8_t *rooms[PARTS];
+    static struct guarded rooms[PARTS];
     for (int i = 0; i < PARTS; i++) {
-        if (!rooms[i])
-            rooms[i] = room();
+        if (!rooms[i].pages)
+            guarded_make(&rooms[i], "part", ROOM);
         if (lens[i] > ROOM)
             fail("an input too large: run with -max_len");
-        uint8_t *copy = rooms[i] + (how & 1 ? 0 : ROOM - lens[i]);
-        mprotect(rooms[i], ROOM, PROT_READ | PROT_WRITE);
-        memcpy(copy, parts[i], lens[i]);
-        mprotect(rooms[i], ROOM, PROT_READ);
+        const uint8_t *copy = guarded_lend(&rooms[i], parts[i], lens[i], side_of(how));
         lent[i] = how & 2 && lens[i] == 0 ? NULL : copy;
     }
 }

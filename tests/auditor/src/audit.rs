@@ -21,7 +21,7 @@ pub struct Findings {
     pub number: u8,
     pub place: u8,
     pub fork: u32,
-    /// Replica k's charge has place k - 1.
+    /// Replica k's charge is the k-th.
     pub rows: [Option<Charge>; MOST],
 }
 
@@ -192,9 +192,9 @@ mod tests {
         );
     }
 
-    /// Each field has its place in the report.
+    /// Each field has its bytes in the report.
     #[test]
-    fn places() {
+    fn fields() {
         let mut findings =
             Findings { number: 1, place: 2, fork: 0x03040506, ..Findings::default() };
         findings.rows[0] = Some(Charge { rule: 9, term: 0x0a0b0c0d });

@@ -1,4 +1,4 @@
-//! The inputs of the comparison: worked figures, every refusal in every way and place, damaged
+//! The inputs of the comparison: worked examples, every refusal in every way and place, damaged
 //! submissions, and pairs of accepted ones. A seed chooses what is not fixed.
 
 pub mod accepted;
@@ -6,7 +6,6 @@ mod change;
 mod commits;
 mod damaged;
 mod edges;
-pub mod figures;
 mod forged;
 mod layouts;
 mod leaders;
@@ -18,6 +17,7 @@ mod rules;
 mod signers;
 mod sizes;
 mod terms;
+pub mod worked_examples;
 
 use crate::audit::{Findings, REPORT_SIZE};
 use crate::build::{log, Cluster, Draft};
@@ -96,7 +96,7 @@ pub fn run(seed: u64, size: Size, take: &mut dyn FnMut(&Case)) {
         take,
         clusters: BTreeMap::new(),
     };
-    cases.figures();
+    cases.worked_examples();
     cases.missed_faults();
     cases.rules();
     cases.reports();

@@ -8,7 +8,7 @@
 //! What makes inputs for both sides:
 //! - `lms::sign`, `build`: keys, rosters and submissions, right or with any field wrong;
 //! - `district`: replicas that act by the board rules, and cheats, with what they can submit;
-//!   `district::acts`: worked examples of those rules, the file that board_acts prints;
+//!   `district::acts`: worked examples of those rules, the file that replica_acts prints;
 //! - `cases`: the inputs of audit_compare; `samples`: the files that make_cases writes.
 
 pub mod audit;

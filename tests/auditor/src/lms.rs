@@ -237,12 +237,12 @@ fn inner_value(identifier: &[u8; 16], node: u32, left: &Digest, right: &Digest) 
     sha256(&[identifier, &node.to_be_bytes(), &D_INTR, left, right])
 }
 
-/// RFC 8554, 3.1.2: strTou32 of the four bytes at a place, if they are there.
+/// RFC 8554, 3.1.2: strTou32 of the four bytes at an offset, if they are there.
 fn u32_at(bytes: &[u8], at: usize) -> Option<u32> {
     array_at(bytes, at).map(u32::from_be_bytes)
 }
 
-/// The bytes at a place, if they are there.
+/// The bytes at an offset, if they are there.
 fn array_at<const LENGTH: usize>(bytes: &[u8], at: usize) -> Option<[u8; LENGTH]> {
     bytes.get(at..at + LENGTH)?.try_into().ok()
 }

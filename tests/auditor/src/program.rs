@@ -33,7 +33,7 @@ mod tests {
     use super::*;
     use crate::build::Cluster;
 
-    /// Missing files are empty, each at its place; those before it are judged first.
+    /// Missing files are empty, each at its place; those before it are validated first.
     #[test]
     fn missing_files() {
         let mut verdicts = Verdicts::default();
@@ -49,7 +49,7 @@ mod tests {
         assert_eq!(printed(roster, None, None), "refusal 5 in 1\nfork 0\n");
     }
 
-    /// A file that just fills its buffer is judged; a larger one gets its number at its place,
+    /// A file that just fills its buffer is validated; a larger one gets its number at its place,
     /// however it begins or ends.
     #[test]
     fn large_files() {

@@ -18,7 +18,7 @@ pub const MOST: usize = 9;
 #[derive(Debug)]
 pub struct Roster {
     pub name: Name,
-    /// Replica k's key has place k - 1.
+    /// Replica k's key is the k-th.
     pub keys: Vec<Vec<u8>>,
     /// The height of every key's tree.
     pub height: usize,
@@ -52,7 +52,7 @@ impl Roster {
                 return Err(3);
             }
         }
-        // 4, twin key
+        // 4, duplicate key (document 01's twin key)
         for a in 0..n {
             for b in a + 1..n {
                 if keys[a] == keys[b] {
@@ -110,7 +110,7 @@ mod tests {
 
     /// Document 01, Bench figures: q for n = 3, 4 and 9; S for heights 5 and 25.
     #[test]
-    fn figures() {
+    fn worked_examples() {
         assert_eq!([3, 4, 9].map(quorum), [2, 3, 5]);
         assert_eq!([5, 25].map(signature_size), [1292, 1932]);
     }

@@ -3,7 +3,7 @@
 
 use crate::build::{log, Cluster, Draft};
 use crate::cases::accepted::{large, largest};
-use crate::cases::figures::{one_leader, stale_leader};
+use crate::cases::worked_examples::{one_leader, stale_leader};
 use crate::cases::{empty, small, whole};
 use crate::roster::mask_of;
 use crate::sha256::sha256;
@@ -107,8 +107,9 @@ pub fn more_pairs(cluster: &Cluster) -> Vec<Pair> {
     ]
 }
 
-/// n = 9, two terms, 182 records. The logs part at index 60: board 1 stamps both in term 4, and
-/// boards 5 to 7 give receipts in term 5 and then elect, in term 7, a leader without those records.
+/// n = 9, two terms, 182 records. The logs part at index 60: replica 1 stamps both in term 4,
+/// and replicas 5 to 7 give receipts in term 5 and then elect, in term 7, a leader without those
+/// records.
 fn filling(cluster: &Cluster) -> (Draft, Draft) {
     let made = |last_term, parted: &[u8]| -> Vec<Record> {
         let record = |i: u8| Record {

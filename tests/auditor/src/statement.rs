@@ -31,7 +31,7 @@ pub struct Position {
     pub pointer: Digest,
 }
 
-/// Pointers 0 to the log's length; pointer i has place i.
+/// Pointers 0 to the log's length, in their order.
 pub fn pointers(log: &[Record]) -> Vec<Digest> {
     let mut pointers = vec![POINTER_0];
     for (i, record) in log.iter().enumerate() {

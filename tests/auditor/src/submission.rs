@@ -107,12 +107,12 @@ impl Submission {
         }
         // 9, layout
         let submission = layout::parts(bytes, &trailer, roster.signature_size()).ok_or(9)?;
-        submission.judge(roster, verdicts)?;
+        submission.validate(roster, verdicts)?;
         Ok(submission)
     }
 
-    /// Numbers 10 to 15.
-    fn judge(&self, roster: &Roster, verdicts: &mut Verdicts) -> Result<(), u8> {
+    /// The lowest of the numbers 10 to 15 that applies, if one does.
+    fn validate(&self, roster: &Roster, verdicts: &mut Verdicts) -> Result<(), u8> {
         if !self.signers_are_right(roster) {
             return Err(10);
         }

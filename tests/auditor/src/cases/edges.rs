@@ -30,7 +30,7 @@ impl Cases<'_> {
     }
 }
 
-/// Name, place and size of each field that is a number.
+/// Name, offset and size of each field that is a number.
 fn fields(draft: &Draft) -> Vec<(String, usize, usize)> {
     let mut fields = Vec::new();
     for i in 0..draft.records.len() {
@@ -38,14 +38,14 @@ fn fields(draft: &Draft) -> Vec<(String, usize, usize)> {
     }
     let mut at = 36 * draft.records.len();
     for (i, leader) in draft.leaders.iter().enumerate() {
-        for (what, place, size) in [
+        for (what, offset, size) in [
             ("candidate", 0, 2),
             ("term", 2, 4),
             ("last term", 6, 4),
             ("last index", 10, 4),
             ("signers", 46, 2),
         ] {
-            fields.push((format!("leader {}'s {what}", i + 1), at + place, size));
+            fields.push((format!("leader {}'s {what}", i + 1), at + offset, size));
         }
         at += 48 + leader.signatures.concat().len();
     }

@@ -5,7 +5,7 @@ use crate::build::{Cluster, Draft};
 use crate::roster::replicas_of;
 use crate::statement::{self, pointers, Position};
 
-/// Which signature: a vote's or a receipt's by certificate and place, or a stamp.
+/// Which signature: a vote's by certificate and signer, each counted from 0, a stamp or a receipt.
 #[derive(Clone, Copy, Debug)]
 enum Slot {
     Vote(usize, usize),
@@ -24,17 +24,17 @@ impl Cases<'_> {
         }
         let cluster = self.cluster(3, 5);
         self.other_statements(&cluster);
-        self.other_places(&cluster);
+        self.other_signers(&cluster);
     }
 
     /// One signature with a bit changed, another type or leaf, another signer's, or none at all.
     fn spoiled(&mut self, cluster: &Cluster, draft: &Draft, slot: Slot) {
         let s = cluster.signature_size();
         let type_at = s - 4 - 32 * ((s - 1132) / 32);
-        for place in [0, 3, 4, 7, 8, type_at - 1, type_at + 3, type_at + 4, s - 1] {
+        for at in [0, 3, 4, 7, 8, type_at - 1, type_at + 3, type_at + 4, s - 1] {
             let mut other = draft.clone();
-            signature(&mut other, slot)[place] ^= 1 << self.random.below(8);
-            let name = format!("{slot:?}, byte {place}");
+            signature(&mut other, slot)[at] ^= 1 << self.random.below(8);
+            let name = format!("{slot:?}, byte {at}");
             self.forgery(&name, cluster, &other);
         }
         let mut other = draft.clone();
@@ -135,18 +135,17 @@ impl Cases<'_> {
             kind[0] = 1;
             messages.push(("another kind", kind));
             for (what, message) in messages {
-                for (place, signer) in replicas_of(draft.leaders[slot].signers).iter().enumerate() {
+                for (i, signer) in replicas_of(draft.leaders[slot].signers).iter().enumerate() {
                     let mut other = draft.clone();
-                    *signature(&mut other, Slot::Vote(slot, place)) =
-                        cluster.sign(*signer, &message);
-                    self.forgery(&format!("vote {slot} {place} on {what}"), cluster, &other);
+                    *signature(&mut other, Slot::Vote(slot, i)) = cluster.sign(*signer, &message);
+                    self.forgery(&format!("vote {slot} {i} on {what}"), cluster, &other);
                 }
             }
         }
     }
 
     /// Right signatures by another replica or in another order.
-    fn other_places(&mut self, cluster: &Cluster) {
+    fn other_signers(&mut self, cluster: &Cluster) {
         let draft = whole(cluster);
         for slot in 0..2 {
             let mut other = draft.clone();
@@ -196,7 +195,7 @@ impl Cases<'_> {
 fn slots(draft: &Draft) -> Vec<Slot> {
     let mut slots = Vec::new();
     for (i, leader) in draft.leaders.iter().enumerate() {
-        slots.extend((0..leader.signatures.len()).map(|place| Slot::Vote(i, place)));
+        slots.extend((0..leader.signatures.len()).map(|signer| Slot::Vote(i, signer)));
     }
     slots.extend((0..draft.stamps.len()).map(Slot::Stamp));
     let receipts = draft.commit.as_ref().map_or(0, |commit| commit.signatures.len());
@@ -206,10 +205,10 @@ fn slots(draft: &Draft) -> Vec<Slot> {
 
 fn signature(draft: &mut Draft, slot: Slot) -> &mut Vec<u8> {
     match slot {
-        Slot::Vote(i, place) => &mut draft.leaders[i].signatures[place],
+        Slot::Vote(i, signer) => &mut draft.leaders[i].signatures[signer],
         Slot::Stamp(i) => &mut draft.stamps[i],
-        Slot::Receipt(place) => {
-            &mut draft.commit.as_mut().expect("a commit certificate").signatures[place]
+        Slot::Receipt(signer) => {
+            &mut draft.commit.as_mut().expect("a commit certificate").signatures[signer]
         }
     }
 }

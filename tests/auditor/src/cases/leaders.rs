@@ -77,10 +77,10 @@ impl Cases<'_> {
                 13,
             );
         }
-        for place in self.some((0..32).collect(), 2) {
+        for at in self.some((0..32).collect(), 2) {
             let mut other = draft.clone();
-            other.leaders[slot].vote.last_pointer[place] ^= 1 << self.random.below(8);
-            let name = format!("leader {slot}, last pointer byte {place}");
+            other.leaders[slot].vote.last_pointer[at] ^= 1 << self.random.below(8);
+            let name = format!("leader {slot}, last pointer byte {at}");
             self.refuse_once(&name, cluster, &other.bytes(), 13);
         }
     }

@@ -1,6 +1,6 @@
 //! Reports of every length, and buffers of no bytes.
 
-use super::figures::{one_leader, stale_leader};
+use super::worked_examples::{one_leader, stale_leader};
 use super::{empty, Case, Cases, Expect};
 use crate::audit::REPORT_SIZE;
 

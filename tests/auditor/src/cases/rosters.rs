@@ -9,7 +9,7 @@ impl Cases<'_> {
         self.roster_sizes();
         for n in [3, 4, 9] {
             self.key_types(n);
-            self.twin_keys(n);
+            self.duplicate_keys(n);
         }
         for tree in 5..=9 {
             let cluster = self.cluster(3, tree);
@@ -82,8 +82,8 @@ impl Cases<'_> {
         }
     }
 
-    /// Number 4: each two keys equal; equal but for one byte they are not twins.
-    fn twin_keys(&mut self, n: usize) {
+    /// Number 4: each two keys equal; but for one byte they are no duplicates.
+    fn duplicate_keys(&mut self, n: usize) {
         let cluster = self.cluster(n, 5);
         let mut two = Vec::new();
         for a in 0..n {
@@ -94,15 +94,15 @@ impl Cases<'_> {
             let key = |k: usize| HEAD_SIZE + k * KEY_SIZE..HEAD_SIZE + (k + 1) * KEY_SIZE;
             roster.copy_within(key(a), key(b).start);
             self.roster(&format!("keys {} and {} equal", a + 1, b + 1), &cluster, &roster, 4);
-            for place in [8, 23, 24, 55] {
+            for at in [8, 23, 24, 55] {
                 let mut almost = roster.clone();
-                almost[key(b).start + place] ^= 1 << self.random.below(8);
-                let name = format!("keys {} and {} equal but byte {place}", a + 1, b + 1);
+                almost[key(b).start + at] ^= 1 << self.random.below(8);
+                let name = format!("keys {} and {} equal but byte {at}", a + 1, b + 1);
                 self.roster(&name, &cluster, &almost, 0);
             }
-            // A type comes before a twin.
+            // A type comes before a duplicate.
             roster[key(n - 1).start + 3] = 6;
-            self.roster("twins and another tree type", &cluster, &roster, 3);
+            self.roster("duplicate keys and another tree type", &cluster, &roster, 3);
         }
     }
 }

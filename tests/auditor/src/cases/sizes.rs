@@ -38,15 +38,10 @@ impl Cases<'_> {
                     6,
                 );
             }
-            for place in self.some((0..16).collect(), 3) {
+            for at in self.some((0..16).collect(), 3) {
                 let mut other = draft.clone();
-                other.trailer.name[place] ^= 1 << self.random.below(8);
-                self.refuse_once(
-                    &format!("{base}, name byte {place}"),
-                    &cluster,
-                    &other.bytes(),
-                    7,
-                );
+                other.trailer.name[at] ^= 1 << self.random.below(8);
+                self.refuse_once(&format!("{base}, name byte {at}"), &cluster, &other.bytes(), 7);
             }
             let counts = vec![
                 (4097, 0),

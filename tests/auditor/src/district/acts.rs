@@ -1,5 +1,5 @@
-//! Worked examples of document 01's board rules: acts on many states, judged by a replica that
-//! does not cheat, and the file of the proof language that lists them.
+//! Worked examples of document 01's board rules: acts on many states, allowed or refused by a
+//! replica that does not cheat, and the file of the proof language that lists them.
 
 mod drawn;
 mod families;
@@ -52,7 +52,7 @@ struct Example {
 }
 
 impl Example {
-    /// The act judged by the replica's own rules.
+    /// What the replica's own rules make of the act.
     fn new(n: usize, state: State, act: Act) -> Example {
         let mut replica = state.replica();
         let after = replica.act(&act, n).then(|| State::of(&replica));

@@ -48,7 +48,7 @@ pub fn parts(bytes: &[u8], trailer: &Trailer, s: usize) -> Option<Submission> {
     (reader.at == body.len()).then_some(Submission { records, leaders, stamps, commit })
 }
 
-/// Reads on from a place.
+/// Reads on from an offset.
 struct Reader<'a> {
     body: &'a [u8],
     at: usize,

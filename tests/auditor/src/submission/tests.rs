@@ -127,7 +127,7 @@ fn empty_log() {
     }
 }
 
-/// Each number is judged over the whole submission before the next: certificate 2's signers come
+/// Each check is made over the whole submission before the next: certificate 2's signers come
 /// before certificate 1's candidate.
 #[test]
 fn whole_before_next() {

@@ -72,7 +72,7 @@ fn all() -> Vec<Example> {
 
 /// An act is allowed if it breaks no clause, and then only what document 01 says is changed.
 #[test]
-fn judged() {
+fn allowed_or_refused() {
     for example in all() {
         assert_eq!(example.after.is_some(), broken(&example).is_empty(), "{example:?}");
         let mut replica = example.state.replica();

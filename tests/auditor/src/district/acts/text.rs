@@ -10,7 +10,7 @@ const WIDTH: usize = 110;
 const HEAD: &str = "\
 -- Acts on many states, and the state after each, or none where the board rules forbid it: \
    by the separately
--- written auditor's own rules. Made by `board_acts` of tests/auditor; \
+-- written auditor's own rules. Made by `replica_acts` of tests/auditor; \
    the gate makes it anew and compares.
 -- Assumes nothing.
 use mathlib.Core.List.{List, [], _∷_, _++_}

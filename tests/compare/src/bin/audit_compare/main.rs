@@ -8,7 +8,7 @@
 //!
 //! A case that differs is written to a folder, as `roster`, `first`, `second` and `report_length`,
 //! beside `report` and `given`, the expected and the given buffer: to FAILED if it is set,
-//! otherwise to audit_compare.failed in the current folder. bench/audit_tool.c runs it from there
+//! otherwise to audit_compare.failed in the current folder. tests/c/audit_tool.c runs it from there
 //! as well. With TRACE set, each case is named and written there before it runs, so that one in
 //! which the library crashes is found.
 

@@ -1,4 +1,4 @@
-//! Document 01, Bench figures, and Faults a bench would miss.
+//! Document 01's worked examples (Bench figures), and Faults a bench would miss.
 
 use super::{empty, Cases, Expect};
 use crate::build::{log, Cluster, Draft};
@@ -20,7 +20,7 @@ pub fn stale_leader(cluster: &Cluster) -> (Draft, Draft) {
 }
 
 impl Cases<'_> {
-    pub fn figures(&mut self) {
+    pub fn worked_examples(&mut self) {
         for (n, tree) in [(3, 5), (4, 5), (9, 5), (3, 9)] {
             let cluster = self.cluster(n, tree);
             let submission = empty(&cluster);
@@ -70,7 +70,7 @@ impl Cases<'_> {
         self.lines("vote on (3, 6)", &cluster, &first, &second, rest);
         let second = cluster.submission(&with(&seven, "x"), &leaders, Some((8, 0b110)));
         self.lines("vote on (3, 7)", &cluster, &first, &second, "fork 0\n");
-        // Board 2 is charged for the vote in term 4, board 1 not for that in term 5.
+        // Replica 2 is charged for the vote in term 4, replica 1 not for that in term 5.
         let leaders = [(3, 0b110), (3, 0b101)];
         let second = cluster.submission(&with(&[(4, "x")], "y"), &leaders, Some((2, 0b101)));
         let rest = "fork 1\nboard 2 rule 3 term 4\n";

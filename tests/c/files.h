@@ -1,4 +1,4 @@
-/* Whole files, for the audit's tool and benchmark. */
+/* Whole files, for the bench tool and the audit's benchmark. */
 #ifndef FILES_H
 #define FILES_H
 
