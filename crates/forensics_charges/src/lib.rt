@@ -21,8 +21,8 @@ pub struct Tenure {
     pub end: u32,
 }
 
-// The receipts of a submission: the term and the index of the record, and the replicas that gave them. Without
-// a commit certificate all are 0: nobody has given one.
+// The receipts of a submission: the term and the index of the record, and the replicas that gave them.
+// Without a commit certificate all are 0: nobody has given one.
 pub struct Receipt {
     pub term: u32,
     pub index: u32,

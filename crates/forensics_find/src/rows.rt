@@ -54,9 +54,9 @@ fn among_terms(k: usize, difference: usize, a: &[u8], b: &[u8], size: usize) -> 
     best
 }
 
-// The row of replica k from the receipts of the one and the terms of the other: rule 3 or 4. The loop is that of
-// `against`: one over both kinds of charge would need an enum of them, with its own contract, and a match in
-// each turn.
+// The row of replica k from the receipts of the one and the terms of the other: rule 3 or 4. The loop is that
+// of `against`: one over both kinds of charge would need an enum of them, with its own contract, and a match
+// in each turn.
 fn after_receipts(k: usize, rule: u8, given: Receipt, s: &[u8], size: usize) -> Row
     requires { ⌜ (0 < k) × (0 < rule) × Bounds size (now s) × (laidOut 4 size (now s) ≡ true) ⌝ }
     ensures { λ r. ⌜ inner.chargeOf r

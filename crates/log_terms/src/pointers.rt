@@ -60,11 +60,12 @@ pub fn pointer_after(s: &[u8], i: usize, end: usize, before: State) -> State
 pub fn next_run(s: &[u8], records: usize, i: usize, before: State) -> Walked
     requires { ⌜ (i < records) × (records ≤ recordMost) × (recordSize 4 * records ≤ length (now s))
         × (bytesOf before ≡ pointer (version1 []) (recordsOf 4 i (now s))) ⌝ }
-    ensures { λ r. ⌜ (i < r .end) × (r .end ≤ records)
-        × (bytesOf (r .pointer) ≡ pointer (version1 []) (recordsOf 4 (r .end) (now (s .entry))))
-        × (runsLeft 4 records i (now (s .entry))
+    ensures ends { λ r. ⌜ (i < r .end) × (r .end ≤ records) ⌝ }
+    ensures pointed { λ r. ⌜ bytesOf (r .pointer)
+        ≡ pointer (version1 []) (recordsOf 4 (r .end) (now (s .entry))) ⌝ }
+    ensures runs { λ r. ⌜ runsLeft 4 records i (now (s .entry))
         ≡ run (recordsOf 4 i (now (s .entry))) (recordsOf 4 (r .end) (now (s .entry)))
-        ∷ runsLeft 4 records (r .end) (now (s .entry))) ⌝ }
+        ∷ runsLeft 4 records (r .end) (now (s .entry)) ⌝ }
 {
     let end = super::run_end(s, records, i);
     let pointer = pointer_after(s, i, end, before);

@@ -43,7 +43,8 @@ fn put_report(out: &mut [u8], number: u32, place: u32, fork: u32, rows: [Row; 9]
     report_rows::put_rows(out, rows);
 }
 
-// Writes the report of two accepted submissions to the buffer's first bytes, keeps the rest, and gives the number.
+// Writes the report of two accepted submissions to the buffer's first bytes, keeps the rest, and gives the
+// number.
 pub fn write_accepted(report: &mut [u8], findings: Findings) -> u32
     requires { ⌜ reportSize ≤ length (now report) ⌝ }
     ensures number { λ r. ⌜ r ≡ accepted findings .number ⌝ }

@@ -34,7 +34,8 @@ fn put_row(out: &mut [u8], at: usize, row: Row)
 // Writes nine rows, one after the other.
 pub fn put_rows(out: &mut [u8], rows: [Row; 9])
     requires { ⌜ reportSize ≤ length (now out) ⌝ }
-    ensures { λ _. ⌜ now (out .exit) ≡ sets (now (out .entry)) rowsPlace (flatMap rowBytes (map chargeOf rows)) ⌝ }
+    ensures { λ _. ⌜ now (out .exit)
+        ≡ sets (now (out .entry)) rowsPlace (flatMap rowBytes (map chargeOf rows)) ⌝ }
 {
     let mut i: usize = 0;
     while i < forensics_charges::ROW_COUNT {

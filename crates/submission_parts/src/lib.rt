@@ -1,6 +1,6 @@
-// The parts of a submission (document 01, "A submission, read from its trailer"; "What stops an audit", 9): the
-// readers of certificates, which give the fields with the next place, or a refusal where the certificate does
-// not lie before an end; the commit certificate, or none; and, in `layout`, where the parts stand.
+// The parts of a submission (document 01, "A submission, read from its trailer"; "What stops an audit", 9):
+// the readers of certificates, which give the fields with the next place, or a refusal where the certificate
+// does not lie before an end; the commit certificate, or none; and, in `layout`, where the parts stand.
 ghost use mathlib.Core.Path.{_≡_};
 ghost use mathlib.Core.Bool.{true};
 ghost use Prim.Native.Nat.{_+_, _*_, _≤_};

@@ -53,14 +53,14 @@ leading-requires c κs =
     let a = c .before .before .before .before .before .args in
     let s = a .s .now in
     let inside = first-inside 4 (a .size) s (l .left) (l .place) (omega (arith, c .before .loop-test .taken)) (l .inv .3) in
-    (le-trans (certificate-head 4 (a .size) s (l .place)) inside, omega arith, omega (arith, c .next-run .ensures .1), l .inv .4)
+    (le-trans (certificate-head 4 (a .size) s (l .place)) inside, omega arith, omega (arith, c .next-run .ensures .0 .1), l .inv .4)
 
 returns : tie.Need-returns Inv-loop μ-loop
 returns c name stamps e =
     let l = c .before .before .before .before .loop in
     let a = c .before .before .before .before .before .before .before .args in
     lead-fails 4 (a .size) (a .s .now) (leading (version1 name) (a .n)) (l .left) (l .place) (runsLeft 4 (a .records) (l .i) (a .s .now)) (a .leaders) stamps
-    (l .inv .5 name stamps e) (omega (arith, c .before .before .before .loop-test .taken)) (l .inv .0) e _ _ (c .before .before .next-run .ensures .3)
+    (l .inv .5 name stamps e) (omega (arith, c .before .before .before .loop-test .taken)) (l .inv .0) e _ _ (c .before .before .next-run .ensures .1 .1)
     (c .before .leading .ensures name) (c .if1 .taken)
 
 certificate-end-requires : tie.Need-certificate-end-requires Inv-loop μ-loop
@@ -84,14 +84,14 @@ loop-again c =
     let walked = c .before .before .before .before .next-run .ensures in
     let place = c .before .certificate-end .ensures in (
       omega arith,
-      walked .1,
-      omega (arith, l .inv .2, ap length (walked .3)),
+      walked .0 .1,
+      omega (arith, l .inv .2, ap length (walked .1 .1)),
       rw place (rest-inside 4 (a .size) s (l .left) (l .place) more (l .inv .3)),
-      walked .2,
+      walked .1 .0,
       (λ name stamps e.
           rw place
           (lead-next 4 (a .size) s (leading (version1 name) (a .n)) (l .left) (l .place) (runsLeft 4 (a .records) (l .i) s) (a .leaders) stamps
-          (l .inv .5 name stamps e) more (l .inv .0) e _ _ (walked .3) (c .before .before .before .leading .ensures name) (c .before .before .if1 .left))),
+          (l .inv .5 name stamps e) more (l .inv .0) e _ _ (walked .1 .1) (c .before .before .before .leading .ensures name) (c .before .before .if1 .left))),
     )
 
 returns-2 : tie.Need-returns-2 Inv-loop μ-loop
