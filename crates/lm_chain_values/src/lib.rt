@@ -34,7 +34,8 @@ pub fn value_at(v: &[u32], i: usize) -> State
 // Makes a value that of chain i.
 pub fn put_value(v: &mut [u32], i: usize, s: State)
     requires { ⌜ 8 * i + 8 ≤ length (now v) ⌝ }
-    ensures { λ _. ⌜ ((k : ℕ) → valueAt (now (v .exit)) k ≡ changed i (bytesOf s) (valueAt (now (v .entry))) k) ⌝ }
+    ensures { λ _. ⌜ ((k : ℕ) → valueAt (now (v .exit)) k
+        ≡ changed i (bytesOf s) (valueAt (now (v .entry))) k) ⌝ }
 {
     let at = 8 * i;
     v[at] = s.a;
