@@ -45,10 +45,10 @@ pub fn later(j: Lanes, m: u32) -> Lanes
 
 // n steps of each of four chains, side by side: from step j of chain i on in each lane.
 //
-// The table and the room are made once for all the steps. The blocks of the next step are made at the end of
-// each turn, from the sums, and so in vectors; made at its start they are computed lane by lane, and a signature
-// check takes twice as long (docs/SPEED.md). Those after the last step are made too, and not used: hence
-// j + n < 256.
+// The table and the room are made once for all the steps. The blocks of the next step are made at the end
+// of each turn, from the sums, and so in vectors; made at its start they are computed lane by lane, and a
+// signature check takes twice as long (docs/SPEED.md). Those after the last step are made too, and not
+// used: hence j + n < 256.
 pub fn run(leaf: Leaf, n: u32, i: Lanes, j: Lanes, t: Four) -> Four
     requires { ⌜ ((l : Lane) → (lane l i < 65536) × (lane l j + n < 256)) ⌝ }
     ensures { λ r. ⌜ ((l : Lane) → bytesOf (state l r)

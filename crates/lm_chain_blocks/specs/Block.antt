@@ -1,5 +1,5 @@
--- The block of a step of a chain, in words. What it is stands in `stepBlock`; the three words after it say how
--- its words 5 to 13 are made of the value's, whose bytes begin one place before a word's edge.
+-- The block of a step of a chain, in words. What it is stands in `stepBlock`; the three words after it say
+-- how its words 5 to 13 are made of the value's, whose bytes begin one place before a word's edge.
 use mathlib.Core.List.{List, _++_}
 use Prim.Native.Nat.{ℕ, _+_, _*_, _/_, _%_}
 use Rattle.words.specs.BigEndian.{be}

@@ -1,9 +1,10 @@
 // The block of a step of a one-time signature's chain, in words (RFC 8554, 4.6, algorithm 4b, step 3):
 // I, q, i, j and the chain's value, 55 bytes, with their padding. One block at a time, and four side by side.
 //
-// A block is made anew for each step. Four of them are made in vectors, from the sums of the step before, lane
-// by lane into the words that change: words 0 to 4, 14 and 15 are the same in every step of a leaf's chains, and
-// stay. `joined` and the three puts have their shape for the compiler's sake (docs/SPEED.md): see each.
+// A block is made anew for each step. Four of them are made in vectors, from the sums of the step before,
+// lane by lane into the words that change: words 0 to 4, 14 and 15 are the same in every step of a leaf's
+// chains, and stay. `joined` and the three puts have their shape for the compiler's sake (docs/SPEED.md):
+// see each.
 ghost use mathlib.Core.Path.{_≡_};
 ghost use Prim.Native.Nat.{ℕ, _<_};
 ghost use lib.ListN.{length, getD};
@@ -29,9 +30,9 @@ fn first(i: u32, j: u32, a: u32) -> u32
     i * 65536 + j * 256 + a / 16777216
 }
 
-// A word among 6 to 12. Plainly it is x % 16777216 * 256 + y / 16777216; but in that the compiler sees a shift
-// across two words, which it has no vector instruction for, and computes it lane by lane. So the low byte is
-// turned over twice.
+// A word among 6 to 12. Plainly it is x % 16777216 * 256 + y / 16777216; but in that the compiler sees a
+// shift across two words, which it has no vector instruction for, and computes it lane by lane. So the low
+// byte is turned over twice.
 fn joined(x: u32, y: u32) -> u32
     ensures { λ r. ⌜ r ≡ acrossWord x y ⌝ }
 {

@@ -48,7 +48,8 @@ fn parent(leaf: Leaf, node: u32, t: State, sibling: State) -> State
 // The root's value from that of a node some levels below it.
 fn climb(leaf: Leaf, levels: u32, start: u32, value: State, path: &[u8]) -> State
     requires { ⌜ length (now path) ≡ 32 * levels ⌝ }
-    ensures { λ r. ⌜ bytesOf r ≡ rfc.climb (identifier leaf) levels start (bytesOf value) (now (path .entry)) ⌝ }
+    ensures { λ r. ⌜ bytesOf r
+        ≡ rfc.climb (identifier leaf) levels start (bytesOf value) (now (path .entry)) ⌝ }
 {
     let mut t = value;
     let mut node = start;

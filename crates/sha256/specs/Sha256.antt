@@ -9,7 +9,7 @@ use Rattle.sha256_tables.specs.Constants.{constants, initialWords}
 unfoldable pub use Rattle.sha256_schedule.specs.Words.{_⊞_, shr, rotr, ch, maj, Σ₀, Σ₁, σ₀, σ₁}
 unfoldable pub use Rattle.sha256_schedule.specs.Words.{nextWord, extend, schedule}
 
--- ---- 5.1.1: padding, in bytes: a one bit and seven zeros, the fewest zero bytes, the length in bits (8 bytes)
+-- ---- 5.1.1: padding, in bytes: a one bit and seven zeros, the fewest zero bytes, 8 bytes of length in bits
 
 -- the fewest zero bytes that bring `length` + 1 to 56 modulo 64
 unfoldable pub zeros : ℕ → ℕ

@@ -112,9 +112,9 @@ impl State {
         self.round(k[t], w[t])
     }
 
-    // The rounds stand in eight functions of one shape, with literal numbers: the compiler takes a function of
-    // this size into its caller only where it is called from one place, and one loop over eight rounds is
-    // slower.
+    // The rounds stand in eight functions of one shape, with literal numbers: the compiler takes a function
+    // of this size into its caller only where it is called from one place, and one loop over eight rounds
+    // is slower.
 
     // Rounds 0 to 7.
     fn rounds_0(self, k: &[u32; 64], w: &[u32; 64]) -> State

@@ -1,5 +1,5 @@
-// Words of four lanes side by side, and the functions of FIPS 180-4, 4.1.2, on them, in a shape from which the
-// compiler forms vector instructions.
+// Words of four lanes side by side, and the functions of FIPS 180-4, 4.1.2, on them, in a shape from which
+// the compiler forms vector instructions.
 ghost use mathlib.Core.Path.{_≡_};
 ghost use Prim.Native.Nat.{ℕ, _+_, _*_, _≤_};
 ghost use lib.ListN.{length};

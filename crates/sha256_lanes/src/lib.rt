@@ -22,8 +22,8 @@ pub const ROOM_WORDS: usize = 4 * 64;
 // A hash value in each lane.
 pub struct Four(pub State, pub State, pub State, pub State);
 
-// Two rounds in each lane, with their constants and words of the schedule (FIPS 180-4, 6.2.2, step 3). Written
-// out, and called from one place: as a loop over one round it is slower by a fifth.
+// Two rounds in each lane, with their constants and words of the schedule (FIPS 180-4, 6.2.2, step 3).
+// Written out, and called from one place: as a loop over one round it is slower by a fifth.
 fn step(s: Four, k0: Lanes, w0: Lanes, k1: Lanes, w1: Lanes) -> Four
     ensures { λ r. ⌜ ((l : Lane) → state l r
         ≡ fips.round (fips.round (state l s) (lane l k0) (lane l w0)) (lane l k1) (lane l w1)) ⌝ }
@@ -102,13 +102,13 @@ fn words_at(w: &mut [u32], i: usize)
     }
 }
 
-// Rounds 4 to 63 in each lane, of blocks that are the first sixteen words of `w` (FIPS 180-4, 6.2.2, steps 1 to
-// 3), from the same working variables.
+// Rounds 4 to 63 in each lane, of blocks that are the first sixteen words of `w` (FIPS 180-4, 6.2.2, steps
+// 1 to 3), from the same working variables.
 //
-// The speed of a signature check hangs on this loop (docs/SPEED.md). The working variables of the four lanes are
-// carried by it, so that they stay in vector registers; two rounds a turn fill these, one leaves copies between
-// them, and more spill. The words of the schedule are made in the turn that uses them. Two a turn have to divide
-// the rounds up to 16: so they begin at 4.
+// The speed of a signature check hangs on this loop (docs/SPEED.md). The working variables of the four
+// lanes are carried by it, so that they stay in vector registers; two rounds a turn fill these, one leaves
+// copies between them, and more spill. The words of the schedule are made in the turn that uses them. Two a
+// turn have to divide the rounds up to 16: so they begin at 4.
 fn rounds(u: State, k: &[u32], w: &mut [u32]) -> Four
     requires { ⌜ (length (now k) ≡ roomWords) × (length (now w) ≡ roomWords)
         × ((l : Lane) (i : ℕ) → i < 64 → wordIn l (now k) i ≡ getD constants i 0) ⌝ }
@@ -142,9 +142,9 @@ fn sums(s: State, r: Four) -> Four
     Four(r.0.plus(s), r.1.plus(s), r.2.plus(s), r.3.plus(s))
 }
 
-// The hash value of each lane after its block, from the same hash value (FIPS 180-4, 6.2.2). The blocks are the
-// first sixteen words of `w`, which keeps them; `u` is what the rounds of their first four words make of the
-// working variables, and `k` is the table.
+// The hash value of each lane after its block, from the same hash value (FIPS 180-4, 6.2.2). The blocks are
+// the first sixteen words of `w`, which keeps them; `u` is what the rounds of their first four words make
+// of the working variables, and `k` is the table.
 pub fn absorb(s: State, u: State, k: &[u32], w: &mut [u32]) -> Four
     requires { ⌜ (length (now k) ≡ roomWords) × (length (now w) ≡ roomWords)
         × ((l : Lane) (i : ℕ) → i < 64 → wordIn l (now k) i ≡ getD constants i 0) ⌝ }

@@ -29,8 +29,8 @@ fn word(w: &mut [u32; 64], t: usize)
     w[t] = next(w[t - 16], w[t - 15], w[t - 7], w[t - 2]);
 }
 
-// The words stand in six functions of one shape, with literal places, as the rounds of `sha256` do and for the
-// same reason: in a loop they are not mixed with the rounds, and a block takes a fifth longer.
+// The words stand in six functions of one shape, with literal places, as the rounds of `sha256` do and for
+// the same reason: in a loop they are not mixed with the rounds, and a block takes a fifth longer.
 
 // The words at places 16 to 23.
 fn words_16(w: &mut [u32; 64])
