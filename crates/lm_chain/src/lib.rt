@@ -1,5 +1,5 @@
-// The steps of the chains of a one-time signature, in words (RFC 8554, 4.6, algorithm 4b, step 3): one at a time, and four
-// chains side by side.
+// The steps of the chains of a one-time signature, in words (RFC 8554, 4.6, algorithm 4b, step 3): one at a
+// time, and four chains side by side.
 ghost use mathlib.Core.Path.{_≡_};
 ghost use Prim.Native.Nat.{ℕ, _+_, _^_, _<_};
 ghost use lib.ListN.{take};
@@ -12,6 +12,7 @@ use lm_hash::Leaf;
 use sha256::State;
 use sha256_lane_words::Lanes;
 use sha256_lanes::Four;
+use sha256_lanes::ROOM_WORDS;
 use sha256_tables::K;
 
 // Step j of chain i.
@@ -22,7 +23,8 @@ pub fn step(leaf: Leaf, i: u32, j: u32, t: State) -> State
     State::new().absorb(lm_chain_blocks::step_block(leaf, i, j, t))
 }
 
-// The working variables after the first four rounds of a step, which are the same in every step of a leaf's chains.
+// The working variables after the first four rounds of a step, which are the same in every step of a leaf's
+// chains.
 fn shared(leaf: Leaf) -> State
     ensures { λ r. ⌜ ((i j : ℕ) (t : State) → r ≡ rounds 4 0 (take 4 (stepBlock leaf i j t)) initial) ⌝ }
 {
@@ -43,9 +45,10 @@ pub fn later(j: Lanes, m: u32) -> Lanes
 
 // n steps of each of four chains, side by side: from step j of chain i on in each lane.
 //
-// The table and the room are made once for all the steps. The blocks of the next step are made at the end of each turn, from
-// the sums, and so in vectors; made at its start they are computed lane by lane, and a signature check takes twice as long
-// (docs/SPEED.md). Those after the last step are made too, and not used: hence j + n < 256.
+// The table and the room are made once for all the steps. The blocks of the next step are made at the end
+// of each turn, from the sums, and so in vectors; made at its start they are computed lane by lane, and a
+// signature check takes twice as long (docs/SPEED.md). Those after the last step are made too, and not
+// used: hence j + n < 256.
 pub fn run(leaf: Leaf, n: u32, i: Lanes, j: Lanes, t: Four) -> Four
     requires { ⌜ ((l : Lane) → (lane l i < 65536) × (lane l j + n < 256)) ⌝ }
     ensures { λ r. ⌜ ((l : Lane) → bytesOf (state l r)
@@ -53,7 +56,7 @@ pub fn run(leaf: Leaf, n: u32, i: Lanes, j: Lanes, t: Four) -> Four
 {
     let u = shared(leaf);
     let k = sha256_lanes::table();
-    let mut w = [0u32; 256];
+    let mut w = [0u32; ROOM_WORDS];
     lm_chain_blocks::first_blocks(leaf, i, j, t, &mut w);
     let mut s = t;
     let mut m: u32 = 0;

@@ -1,5 +1,5 @@
--- The block of a step of a chain, in words. What it is stands in `stepBlock`; the three words after it say how its words
--- 5 to 13 are made of the value's, whose bytes begin one place before a word's edge.
+-- The block of a step of a chain, in words. What it is stands in `stepBlock`; the three words after it say
+-- how its words 5 to 13 are made of the value's, whose bytes begin one place before a word's edge.
 use mathlib.Core.List.{List, _++_}
 use Prim.Native.Nat.{ℕ, _+_, _*_, _/_, _%_}
 use Rattle.words.specs.BigEndian.{be}
@@ -10,7 +10,8 @@ use Rattle.lm_hash.specs.Identifier.{identifier}
 
 -- the words of step j of chain i: I, q, i, j and the value, 55 bytes in all, with their padding
 unfoldable pub stepBlock : Leaf → ℕ → ℕ → State → List ℕ
-stepBlock leaf i j t = parse 16 ((identifier leaf ++ be 4 (leaf .q) ++ be 2 i ++ (be 1 j ++ bytesOf t)) ++ padding 55)
+stepBlock leaf i j t =
+    parse 16 ((identifier leaf ++ be 4 (leaf .q) ++ be 2 i ++ (be 1 j ++ bytesOf t)) ++ padding 55)
 
 -- word 5: i, j and the first byte of the value's first word
 unfoldable pub firstWord : ℕ → ℕ → ℕ → ℕ

@@ -1,18 +1,24 @@
 // The block of a step of a one-time signature's chain, in words (RFC 8554, 4.6, algorithm 4b, step 3):
 // I, q, i, j and the chain's value, 55 bytes, with their padding. One block at a time, and four side by side.
 //
-// A block is made anew for each step. Four of them are made in vectors, from the sums of the step before, lane by lane
-// into the words that change: words 0 to 4, 14 and 15 are the same in every step of a leaf's chains, and stay.
-// `joined` and the three puts have their shape for the compiler's sake (docs/SPEED.md): see each.
+// A block is made anew for each step. Four of them are made in vectors, from the sums of the step before,
+// lane by lane into the words that change: words 0 to 4, 14 and 15 are the same in every step of a leaf's
+// chains, and stay. `joined` and the three puts have their shape for the compiler's sake (docs/SPEED.md):
+// see each.
 ghost use mathlib.Core.Path.{_≡_};
 ghost use Prim.Native.Nat.{ℕ, _<_};
 ghost use lib.ListN.{length, getD};
 ghost use Rattle.sha256_lanes.specs.Lane.{Lane, lane, state, wordIn, changed};
+ghost use Rattle.sha256_lanes.specs.Lane.{blockWords, roomWords};
 ghost use Rattle.lm_chain_blocks.specs.Block.{stepBlock, firstWord, acrossWord, lastWord};
 use lm_hash::Leaf;
 use sha256::State;
 use sha256_lane_words::Lanes;
+use sha256_lanes::BLOCK_WORDS;
 use sha256_lanes::Four;
+
+// The bits of I, q, i, j and the value, with which the padding ends (FIPS 180-4, 5.1.1).
+const STEP_BITS: u32 = 8 * 55;
 
 // ---- words of a block
 
@@ -24,8 +30,9 @@ fn first(i: u32, j: u32, a: u32) -> u32
     i * 65536 + j * 256 + a / 16777216
 }
 
-// A word among 6 to 12. Plainly it is x % 16777216 * 256 + y / 16777216; but in that the compiler sees a shift across two
-// words, which it has no vector instruction for, and computes it lane by lane. So the low byte is turned over twice.
+// A word among 6 to 12. Plainly it is x % 16777216 * 256 + y / 16777216; but in that the compiler sees a
+// shift across two words, which it has no vector instruction for, and computes it lane by lane. So the low
+// byte is turned over twice.
 fn joined(x: u32, y: u32) -> u32
     ensures { λ r. ⌜ r ≡ acrossWord x y ⌝ }
 {
@@ -40,7 +47,7 @@ fn last(h: u32) -> u32
 }
 
 // The block of step j of chain i.
-pub fn step_block(leaf: Leaf, i: u32, j: u32, t: State) -> [u32; 16]
+pub fn step_block(leaf: Leaf, i: u32, j: u32, t: State) -> [u32; BLOCK_WORDS]
     requires { ⌜ (i < 65536) × (j < 256) ⌝ }
     ensures { λ r. ⌜ r ≡ stepBlock leaf i j t ⌝ }
 {
@@ -60,7 +67,7 @@ pub fn step_block(leaf: Leaf, i: u32, j: u32, t: State) -> [u32; 16]
         joined(t.g, t.h),
         last(t.h),
         0,
-        440,
+        STEP_BITS,
     ]
 }
 
@@ -99,7 +106,7 @@ fn lasts(h: Lanes) -> Lanes
 
 // Words 5 to 7 of each lane's block. Nine puts in one function would be too many for its proof.
 fn put_first(i: Lanes, j: Lanes, a: Lanes, b: Lanes, c: Lanes, w: &mut [u32])
-    requires { ⌜ (length (now w) ≡ 256) × ((l : Lane) → (lane l i < 65536) × (lane l j < 256)) ⌝ }
+    requires { ⌜ (length (now w) ≡ roomWords) × ((l : Lane) → (lane l i < 65536) × (lane l j < 256)) ⌝ }
     ensures { λ _. ⌜ ((l : Lane) (k : ℕ) → wordIn l (now (w .exit)) k
         ≡ changed 7 (acrossWord (lane l b) (lane l c)) (changed 6 (acrossWord (lane l a) (lane l b))
         (changed 5 (firstWord (lane l i) (lane l j) (lane l a)) (wordIn l (now (w .entry))))) k) ⌝ }
@@ -111,7 +118,7 @@ fn put_first(i: Lanes, j: Lanes, a: Lanes, b: Lanes, c: Lanes, w: &mut [u32])
 
 // Words 8 to 10.
 fn put_middle(c: Lanes, d: Lanes, e: Lanes, f: Lanes, w: &mut [u32])
-    requires { ⌜ (length (now w) ≡ 256) ⌝ }
+    requires { ⌜ (length (now w) ≡ roomWords) ⌝ }
     ensures { λ _. ⌜ ((l : Lane) (k : ℕ) → wordIn l (now (w .exit)) k
         ≡ changed 10 (acrossWord (lane l e) (lane l f)) (changed 9 (acrossWord (lane l d) (lane l e))
         (changed 8 (acrossWord (lane l c) (lane l d)) (wordIn l (now (w .entry))))) k) ⌝ }
@@ -123,7 +130,7 @@ fn put_middle(c: Lanes, d: Lanes, e: Lanes, f: Lanes, w: &mut [u32])
 
 // Words 11 to 13.
 fn put_last(f: Lanes, g: Lanes, h: Lanes, w: &mut [u32])
-    requires { ⌜ (length (now w) ≡ 256) ⌝ }
+    requires { ⌜ (length (now w) ≡ roomWords) ⌝ }
     ensures { λ _. ⌜ ((l : Lane) (k : ℕ) → wordIn l (now (w .exit)) k
         ≡ changed 13 (lastWord (lane l h)) (changed 12 (acrossWord (lane l g) (lane l h))
         (changed 11 (acrossWord (lane l f) (lane l g)) (wordIn l (now (w .entry))))) k) ⌝ }
@@ -135,10 +142,11 @@ fn put_last(f: Lanes, g: Lanes, h: Lanes, w: &mut [u32])
 
 // Makes the blocks of some step of each lane's chain i those of step j, on the value t: words 5 to 13 of `w`.
 pub fn next_blocks(i: Lanes, j: Lanes, t: Four, w: &mut [u32])
-    requires { ⌜ (length (now w) ≡ 256) × ((l : Lane) → (lane l i < 65536) × (lane l j < 256)) ⌝ }
+    requires { ⌜ (length (now w) ≡ roomWords) × ((l : Lane) → (lane l i < 65536) × (lane l j < 256)) ⌝ }
     ensures { λ _. ⌜ ((l : Lane) (leaf : Leaf) (p : ℕ) (v : State)
-        → ((n : ℕ) → n < 16 → wordIn l (now (w .entry)) n ≡ getD (stepBlock leaf (lane l i) p v) n 0)
-        → (n : ℕ) → n < 16 → wordIn l (now (w .exit)) n ≡ getD (stepBlock leaf (lane l i) (lane l j) (state l t)) n 0) ⌝ }
+        → ((n : ℕ) → n < blockWords → wordIn l (now (w .entry)) n ≡ getD (stepBlock leaf (lane l i) p v) n 0)
+        → (n : ℕ) → n < blockWords
+        → wordIn l (now (w .exit)) n ≡ getD (stepBlock leaf (lane l i) (lane l j) (state l t)) n 0) ⌝ }
 {
     let a = Lanes(t.0.a, t.1.a, t.2.a, t.3.a);
     let b = Lanes(t.0.b, t.1.b, t.2.b, t.3.b);
@@ -155,8 +163,8 @@ pub fn next_blocks(i: Lanes, j: Lanes, t: Four, w: &mut [u32])
 
 // Makes the blocks of step j of each lane's chain i, on the value t, the first sixteen words of each lane.
 pub fn first_blocks(leaf: Leaf, i: Lanes, j: Lanes, t: Four, w: &mut [u32])
-    requires { ⌜ (length (now w) ≡ 256) × ((l : Lane) → (lane l i < 65536) × (lane l j < 256)) ⌝ }
-    ensures { λ _. ⌜ ((l : Lane) (n : ℕ) → n < 16
+    requires { ⌜ (length (now w) ≡ roomWords) × ((l : Lane) → (lane l i < 65536) × (lane l j < 256)) ⌝ }
+    ensures { λ _. ⌜ ((l : Lane) (n : ℕ) → n < blockWords
         → wordIn l (now (w .exit)) n ≡ getD (stepBlock leaf (lane l i) (lane l j) (state l t)) n 0) ⌝ }
 {
     let b0 = step_block(leaf, i.0, j.0, t.0);

@@ -9,3 +9,7 @@ use Rattle.lm_digits.specs.Parameters.{oneTime}
 pub record Listed (o : Parameters) : Type 0 where
   pub number : ℕ
   pub found : oneTime number ≡ Known o
+
+-- the most chains of a row: those of type 1 (RFC 8554, 4.1, table 1)
+abbrev pub chainsMost : ℕ
+chainsMost = 265

@@ -1,5 +1,5 @@
--- The parameters of the one-time types (document 01, "Digest and signature"; RFC 8554, 4.1, table 1), and the claim that
--- chains and shift follow from the digit width (RFC 8554, appendix B). n is 32 throughout.
+-- The parameters of the one-time types (document 01, "Digest and signature"; RFC 8554, 4.1, table 1), and the
+-- claim that chains and shift follow from the digit width (RFC 8554, appendix B). n is 32 throughout.
 use mathlib.Core.Path.{_≡_}
 use mathlib.Core.Bool.{cond}
 use Prim.Native.Nat.{ℕ, suc, _+_, _-_, _*_, _/_, _^_, _≤_}
@@ -16,7 +16,8 @@ row w p ls = record { bits = w; chains = p; shift = ls }
 unfoldable pub oneTime : ℕ → OneTime
 oneTime number =
     cond (eqb number 1) (Known (row 1 265 7))
-    (cond (eqb number 2) (Known (row 2 133 6)) (cond (eqb number 3) (Known (row 4 67 4)) (cond (eqb number 4) (Known (row 8 34 0)) Unknown)))
+    (cond (eqb number 2) (Known (row 2 133 6))
+    (cond (eqb number 3) (Known (row 4 67 4)) (cond (eqb number 4) (Known (row 8 34 0)) Unknown)))
 
 -- ---- appendix B
 
@@ -24,7 +25,8 @@ oneTime number =
 unfoldable pub messageDigits : ℕ → ℕ
 messageDigits w = 8 * 32 / w
 
--- v: the digits that hold the checksum's bits, with its bits counted by the power of 2 above its largest value
+-- v: the digits that hold the checksum's bits, with its bits counted by the power of 2 above its largest
+-- value
 pub record ChecksumDigits (w v : ℕ) : Type 0 where
   pub length : ℕ
   pub above : suc ((2 ^ w - 1) * messageDigits w) ≤ 2 ^ length

@@ -4,6 +4,8 @@ ghost use Prim.Native.Nat.{ℕ, _*_, _/_, _^_, _≤_, _<_};
 ghost use lib.ListN.{length, getD};
 ghost use Rattle.lm_digits.specs.Parameters.{messageDigits};
 ghost use Rattle.lm_digits.specs.Digits.{coef, sum, withChecksum};
+ghost use Rattle.lm_digits.specs.Listed.{chainsMost};
+use super::CHAINS_MOST;
 use super::Parameters;
 
 // Digit i of a byte string (RFC 8554, 3.1.3): 8 / bits digits stand in a byte, the first in its
@@ -53,11 +55,13 @@ pub fn with_checksum(q: [u8; 32], o: Parameters) -> [u8; 34]
 }
 
 // The first digits of a byte string, one for each of as many chains.
-pub fn starts(s: &[u8], bits: u32, count: usize) -> [u32; 265]
-    requires { ⌜ (bits * (8 / bits) ≡ 8) × (count ≤ 265) × ((i : ℕ) → i < count → i * bits / 8 < length (now s)) ⌝ }
-    ensures { λ r. ⌜ ((i : ℕ) → i < count → getD r i 0 ≡ coef bits (now (s .entry)) i) × ((i : ℕ) → getD r i 0 < 2 ^ bits) ⌝ }
+pub fn starts(s: &[u8], bits: u32, count: usize) -> [u32; CHAINS_MOST]
+    requires { ⌜ (bits * (8 / bits) ≡ 8) × (count ≤ chainsMost)
+        × ((i : ℕ) → i < count → i * bits / 8 < length (now s)) ⌝ }
+    ensures { λ r. ⌜ ((i : ℕ) → i < count → getD r i 0 ≡ coef bits (now (s .entry)) i)
+        × ((i : ℕ) → getD r i 0 < 2 ^ bits) ⌝ }
 {
-    let mut d = [0u32; 265];
+    let mut d = [0u32; CHAINS_MOST];
     let mut i = 0;
     while i < count {
         d[i] = digit(s, bits, i);

@@ -1,8 +1,12 @@
-// The types of one-time signatures, and the digits that they cut a hash value into (RFC 8554, 3.1.3, 4.1 and 4.4).
+// The types of one-time signatures, and the digits that they cut a hash value into (RFC 8554, 3.1.3, 4.1
+// and 4.4).
 ghost use mathlib.Core.Path.{_≡_};
 ghost use Rattle.lm_digits.specs.Parameters.{oneTime};
 
 pub mod digits;
+
+// The most chains of a one-time type: those of type 1 (RFC 8554, 4.1, table 1).
+pub const CHAINS_MOST: usize = 265;
 
 // The parameters of a one-time type: digit bits w, chains p, checksum shift ls (RFC 8554, table 1).
 pub struct Parameters {
@@ -23,7 +27,7 @@ pub fn one_time(number: u32) -> OneTime
     match number {
         1 => OneTime::Known(Parameters {
             bits: 1,
-            chains: 265,
+            chains: CHAINS_MOST,
             shift: 7,
         }),
         2 => OneTime::Known(Parameters {

@@ -1,5 +1,5 @@
--- Keys and signatures as bytes: the heights by type number (document 01, "Digest and signature"; RFC 8554, 5.1, table 2), and the lengths
--- (5.3, 5.4).
+-- Keys and signatures as bytes: the heights by type number (document 01, "Digest and signature"; RFC 8554,
+-- 5.1, table 2), and the lengths (5.3, 5.4).
 use mathlib.Core.Bool.{cond}
 use Prim.Native.Nat.{ℕ, _+_, _*_}
 use lib.Dec.{eqb}
@@ -11,7 +11,8 @@ unfoldable pub height : ℕ → Height
 height number =
     cond (eqb number 5) (Levels 5)
     (cond (eqb number 6) (Levels 10)
-    (cond (eqb number 7) (Levels 15) (cond (eqb number 8) (Levels 20) (cond (eqb number 9) (Levels 25) Unknown))))
+    (cond (eqb number 7) (Levels 15)
+    (cond (eqb number 8) (Levels 20) (cond (eqb number 9) (Levels 25) Unknown))))
 
 -- 5.3: the bytes of a key: two types, I, T[1]
 abbrev pub keySize : ℕ

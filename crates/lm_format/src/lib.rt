@@ -1,5 +1,5 @@
-// Keys and signatures as bytes (RFC 8554, 5.3 and 5.4): the height of a tree type, and what a signature must be before a hash is computed (5.4.2, algorithm
-// 6a, step 2).
+// Keys and signatures as bytes (RFC 8554, 5.3 and 5.4): the height of a tree type, and what a signature
+// must be before a hash is computed (5.4.2, algorithm 6a, step 2).
 ghost use mathlib.Core.Path.{_≡_};
 ghost use Prim.Native.Nat.{_≤_};
 ghost use lib.ListN.{length};
@@ -31,8 +31,9 @@ pub fn height_of(number: u32) -> Height
     }
 }
 
-// Whether the length, the types and the leaf number of a signature are right for a key of known types.
-pub fn formed(o: Parameters, h: u32, key: &[u8], signature: &[u8]) -> bool
+// Whether the length, the types and the leaf number of a signature are right for a key of known types (RFC
+// 8554, 5.4.2, algorithm 6a, step 2).
+pub fn signature_formed(o: Parameters, h: u32, key: &[u8], signature: &[u8]) -> bool
     requires { ⌜ Listed o × (h ≤ 25) × (length (now key) ≡ rfc.keySize) ⌝ }
     ensures { λ r. ⌜ r ≡ tests.formed o h (now (key .entry)) (now (signature .entry)) ⌝ }
 {

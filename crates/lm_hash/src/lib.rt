@@ -1,4 +1,4 @@
-// The hashes of RFC 8554, each of the form H(I || u32str(q) || u16str(d) || rest).
+// The hashes of RFC 8554 (4.3, 4.5, 4.6 and 5.3), each of the form H(I || u32str(q) || u16str(d) || rest).
 ghost use mathlib.Core.Path.{_≡_};
 ghost use mathlib.Core.List.{_++_};
 ghost use Prim.Native.Nat.{_+_, _≤_, _<_};
@@ -83,7 +83,8 @@ pub fn tagged(leaf: Leaf, q: u32, d: u32, rest: &[u8]) -> State
 // H(I || u32str(q) || u16str(d) || salt || message), with no copy of the message.
 pub fn tagged_message(leaf: Leaf, q: u32, d: u32, salt: &[u8], message: &[u8]) -> State
     requires { ⌜ (d < 65536) × (length (now salt) ≡ 32) × (length (now message) ≤ limit) ⌝ }
-    ensures { λ r. ⌜ bytesOf r ≡ rfc.tagged (identifier leaf) q d (now (salt .entry) ++ now (message .entry)) ⌝ }
+    ensures { λ r. ⌜ bytesOf r
+        ≡ rfc.tagged (identifier leaf) q d (now (salt .entry) ++ now (message .entry)) ⌝ }
 {
     let bytes = head(leaf, q, d);
     let block = message::first_block(&bytes[..22], salt);

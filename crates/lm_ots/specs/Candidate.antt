@@ -1,4 +1,5 @@
--- The public key candidate of a one-time signature (RFC 8554, 4.6, algorithm 4b), over the parameters of the type.
+-- The public key candidate of a one-time signature (RFC 8554, 4.6, algorithm 4b), over the parameters of the
+-- type.
 use mathlib.Core.List.{List, [], _++_}
 use Prim.Native.Nat.{ℕ, zero, suc, _-_, _*_, _^_}
 use lib.ListN.{take, drop}

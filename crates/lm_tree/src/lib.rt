@@ -11,6 +11,12 @@ ghost use Rattle.lm_tree.specs.Tree as rfc;
 use lm_hash::Leaf;
 use sha256::State;
 
+// What sets the hash of a leaf apart (RFC 8554, 5.3).
+const D_LEAF: u32 = 0x8282;
+
+// What sets the hash of an inner node apart (RFC 8554, 5.3).
+const D_INTR: u32 = 0x8383;
+
 // The bytes of two values, one after the other.
 fn pair(left: State, right: State) -> [u8; 64]
     ensures { λ r. ⌜ r ≡ bytesOf left ++ bytesOf right ⌝ }
@@ -22,7 +28,8 @@ fn pair(left: State, right: State) -> [u8; 64]
 
 // The values of a node and its sibling, the left child first: an odd node is the right one.
 fn children(node: u32, t: State, sibling: State) -> [u8; 64]
-    ensures { λ r. ⌜ r ≡ cond (eqb (node % 2) 1) (bytesOf sibling ++ bytesOf t) (bytesOf t ++ bytesOf sibling) ⌝ }
+    ensures { λ r. ⌜ r
+        ≡ cond (eqb (node % 2) 1) (bytesOf sibling ++ bytesOf t) (bytesOf t ++ bytesOf sibling) ⌝ }
 {
     if node % 2 == 1 {
         return pair(sibling, t);
@@ -35,13 +42,14 @@ fn parent(leaf: Leaf, node: u32, t: State, sibling: State) -> State
     ensures { λ r. ⌜ bytesOf r ≡ rfc.parent (identifier leaf) node (bytesOf t) (bytesOf sibling) ⌝ }
 {
     let both = children(node, t, sibling);
-    lm_hash::tagged(leaf, node / 2, 0x8383, &both)
+    lm_hash::tagged(leaf, node / 2, D_INTR, &both)
 }
 
 // The root's value from that of a node some levels below it.
 fn climb(leaf: Leaf, levels: u32, start: u32, value: State, path: &[u8]) -> State
     requires { ⌜ length (now path) ≡ 32 * levels ⌝ }
-    ensures { λ r. ⌜ bytesOf r ≡ rfc.climb (identifier leaf) levels start (bytesOf value) (now (path .entry)) ⌝ }
+    ensures { λ r. ⌜ bytesOf r
+        ≡ rfc.climb (identifier leaf) levels start (bytesOf value) (now (path .entry)) ⌝ }
 {
     let mut t = value;
     let mut node = start;
@@ -63,6 +71,6 @@ pub fn root(leaf: Leaf, h: u32, kc: State, path: &[u8]) -> State
 {
     let node = (1 << h) + leaf.q;
     let key = kc.bytes();
-    let value = lm_hash::tagged(leaf, node, 0x8282, &key);
+    let value = lm_hash::tagged(leaf, node, D_LEAF, &key);
     climb(leaf, h, node, value, path)
 }

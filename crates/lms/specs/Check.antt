@@ -1,5 +1,5 @@
--- The signature check (RFC 8554, 5.4.2, algorithms 6 and 6a), and the answer of the service for every input (document 01,
--- "Digest and signature").
+-- The signature check (RFC 8554, 5.4.2, algorithms 6 and 6a), and the answer of the service for every input
+-- (document 01, "Digest and signature").
 use mathlib.Core.Bool.{Bool, false, cond}
 use mathlib.Core.List.{List}
 use Prim.Native.Nat.{ℕ}
@@ -42,7 +42,9 @@ typed (Known o) (Levels h) key message signature = verifies o h key message sign
 -- algorithm 6, steps 1 and 2: the key's length
 unfoldable pub good : List ℕ → List ℕ → List ℕ → Bool
 good key message signature =
-    cond (eqb (length key) keySize) (typed (oneTime (numberAt 4 key 4)) (height (numberAt 4 key 0)) key message signature) false
+    cond (eqb (length key) keySize)
+    (typed (oneTime (numberAt 4 key 4)) (height (numberAt 4 key 0)) key message signature)
+    false
 
 -- the service's answer: a long message comes before everything
 unfoldable pub answer : List ℕ → List ℕ → List ℕ → Answer

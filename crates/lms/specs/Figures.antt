@@ -1,5 +1,5 @@
--- The marked figures of document 01, "Bench figures", that speak of signatures: what the definitions give, and what the
--- paper says. The list of all marked figures takes these up.
+-- The marked figures of document 01, "Bench figures", that speak of signatures: what the definitions give,
+-- and what the paper says. The list of all marked figures takes these up.
 use mathlib.Core.Path.{_≡_}
 use mathlib.Core.List.{List, [], _∷_}
 use Prim.Native.Nat.{ℕ}

@@ -18,7 +18,8 @@ use sha256::State;
 fn root_of(o: Parameters, h: u32, key: &[u8], message: &[u8], signature: &[u8]) -> State
     requires { ⌜ Listed o × (h ≤ 25) × (length (now key) ≡ keySize) × (length (now message) ≤ limit)
         × (length (now signature) ≡ signatureLength o h) × (numberAt 4 (now signature) 0 < 2 ^ h) ⌝ }
-    ensures { λ r. ⌜ bytesOf r ≡ rfc.rootOf o h (now (key .entry)) (now (message .entry)) (now (signature .entry)) ⌝ }
+    ensures { λ r. ⌜ bytesOf r
+        ≡ rfc.rootOf o h (now (key .entry)) (now (message .entry)) (now (signature .entry)) ⌝ }
 {
     let leaf = lm_hash::leaf_at(key, 8, words::u32_at(signature, 0));
     let end = 8 + 32 * (o.chains + 1);
@@ -39,9 +40,10 @@ fn matches(root: State, key: &[u8]) -> bool
 // Whether a signature verifies under a key of known types (RFC 8554, 5.4.2, algorithms 6 and 6a).
 fn verify(o: Parameters, h: u32, key: &[u8], message: &[u8], signature: &[u8]) -> bool
     requires { ⌜ Listed o × (h ≤ 25) × (length (now key) ≡ keySize) × (length (now message) ≤ limit) ⌝ }
-    ensures { λ r. ⌜ r ≡ rfc.verifies o h (now (key .entry)) (now (message .entry)) (now (signature .entry)) ⌝ }
+    ensures { λ r. ⌜ r
+        ≡ rfc.verifies o h (now (key .entry)) (now (message .entry)) (now (signature .entry)) ⌝ }
 {
-    if !lm_format::formed(o, h, key, signature) {
+    if !lm_format::signature_formed(o, h, key, signature) {
         return false;
     }
     matches(root_of(o, h, key, message, signature), key)

@@ -1,5 +1,6 @@
--- What a signature stands on, and its bytes (document 01, "Chain and statements"). A stamp's or a receipt's claim has the log
--- itself, the first records up to the index that it names; the pointer is computed only where its bytes are. A vote's has the fields as they were sent.
+-- What a signature stands on, and its bytes (document 01, "Chain and statements"). A stamp's or a receipt's
+-- claim has the log itself, the first records up to the index that it names; the pointer is computed only
+-- where its bytes are. A vote's has the fields as they were sent.
 use mathlib.Core.List.{List, _∷_, _++_}
 use Prim.Native.Nat.{ℕ, _+_}
 use lib.ListN.{length}
@@ -26,8 +27,8 @@ place form term log = be (form .termBytes) term ++ be 4 (length log) ++ pointer 
 -- candidate, term, last term, last index, last pointer: the fields of a vote
 unfoldable pub ballotBytes : Form → Ballot → List ℕ
 ballotBytes form b =
-    be 2 (b .candidate) ++ be (form .termBytes) (b .term) ++ be (form .termBytes) (b .lastTerm) ++ be 4 (b .lastIndex)
-    ++ b .lastPointer
+    be 2 (b .candidate) ++ be (form .termBytes) (b .term) ++ be (form .termBytes) (b .lastTerm)
+    ++ be 4 (b .lastIndex) ++ b .lastPointer
 
 -- the kind byte, the cluster's name, the fields
 unfoldable pub say : Form → Claim → List ℕ

@@ -1,3 +1,4 @@
 pub mod Log
 pub mod Claim
 pub mod Apart
+pub mod Widths

@@ -5,8 +5,8 @@ use lib.ListN.{replicate}
 use Rattle.words.specs.BigEndian.{be}
 use Rattle.sha256.specs.Sha256.{sha256}
 
--- what document 01 gives once: the bytes of a term, the kind byte of a stamp (a receipt's and a vote's follow it), and the
--- cluster's name
+-- what document 01 gives once: the bytes of a term, the kind byte of a stamp (a receipt's and a vote's follow
+-- it), and the cluster's name
 pub record Form : Type 0 where
   pub termBytes : ℕ
   pub firstKind : ℕ

@@ -1,5 +1,5 @@
--- Tests taken together, and the number of the first check that is not met (document 01, "What stops an audit": the lowest
--- number that applies is given; each stands only if those before it do not).
+-- Tests taken together, and the number of the first check that is not met (document 01, "What stops an
+-- audit": the lowest number that applies is given; each stands only if those before it do not).
 use mathlib.Core.Bool.{Bool, true, false, cond}
 use mathlib.Core.List.{List, [], _∷_}
 use Prim.Native.Nat.{ℕ}

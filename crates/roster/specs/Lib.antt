@@ -1,2 +1,3 @@
 pub mod Roster
 pub mod Masks
+pub mod Sizes

@@ -1,4 +1,5 @@
--- Replicas as the ones among sixteen bits (document 01, "A submission, read from its trailer" and "The report").
+-- Replicas as the ones among sixteen bits (document 01, "A submission, read from its trailer" and "The
+-- report").
 use mathlib.Core.Bool.{Bool, cond}
 use mathlib.Core.List.{List, [], _∷_}
 use Prim.Native.Nat.{ℕ, zero, suc, _-_, _/_, _%_, _^_}

@@ -1,4 +1,5 @@
--- The roster (document 01, "The roster"): cluster name, n, then n public keys; and its checks ("What stops an audit", 2 to 4).
+-- The roster (document 01, "The roster"): cluster name, n, then n public keys; and its checks ("What stops an
+-- audit", 2 to 4).
 use mathlib.Core.Bool.{Bool, true, false, not, cond}
 use mathlib.Core.List.{List, [], _∷_}
 use Prim.Native.Nat.{ℕ, zero, suc, _+_, _-_, _*_, _/_}
@@ -79,4 +80,7 @@ single roster k = everyReplica (k - 1) (λ j. not (same (keyOf roster j) (keyOf 
 unfoldable pub rosterNumber : List ℕ → ℕ
 rosterNumber roster =
     let n = replicas roster in
-    refusal (check 2 (sized roster) ∷ check 3 (everyReplica n (typed roster)) ∷ check 4 (everyReplica n (single roster)) ∷ [])
+    refusal (
+    check 2 (sized roster) ∷
+    check 3 (everyReplica n (typed roster)) ∷ check 4 (everyReplica n (single roster)) ∷ []
+    )

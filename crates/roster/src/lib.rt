@@ -5,6 +5,7 @@ ghost use lib.ListN.{length};
 ghost use Rattle.lm_format.specs.Format.{height, keySize};
 ghost use Rattle.roster.specs.Roster as paper;
 ghost use Rattle.roster.specs.Masks as masks;
+ghost use Rattle.roster.specs.Sizes.{signatureMost};
 use lm_format::Height;
 
 // The bytes of a cluster's name, and of name and n.
@@ -76,7 +77,7 @@ fn levels(number: u32) -> usize
 // S: the bytes of each signature.
 pub fn signature_size(roster: &[u8]) -> usize
     requires { ⌜ paper.headSize + keySize ≤ length (now roster) ⌝ }
-    ensures { λ r. ⌜ (r ≡ paper.signatureSize (now (roster .entry))) × (r ≤ 1932) ⌝ }
+    ensures { λ r. ⌜ (r ≡ paper.signatureSize (now (roster .entry))) × (r ≤ signatureMost) ⌝ }
 {
     PATH_AT + 32 * levels(tree_type(roster, 1))
 }

@@ -10,7 +10,8 @@ ghost use Rattle.roster.specs.Roster as paper;
 // Whether the keys of two replicas differ.
 fn differ(roster: &[u8], j: usize, k: usize) -> bool
     requires { ⌜ (0 < j) × (j ≤ k) × (paper.headSize + keySize * k ≤ length (now roster)) ⌝ }
-    ensures { λ r. ⌜ r ≡ not (same (paper.keyOf (now (roster .entry)) j) (paper.keyOf (now (roster .entry)) k)) ⌝ }
+    ensures { λ r. ⌜ r
+        ≡ not (same (paper.keyOf (now (roster .entry)) j) (paper.keyOf (now (roster .entry)) k)) ⌝ }
 {
     !check::same(roster::key_of(roster, j), roster::key_of(roster, k))
 }
@@ -30,7 +31,7 @@ fn single(roster: &[u8], k: usize) -> bool
     true
 }
 
-// Whether the keys of replicas 1 to n are.
+// Whether the keys of replicas 1 to n are all different: none is that of a replica before it.
 pub fn all_single(roster: &[u8], n: usize) -> bool
     requires { ⌜ paper.headSize + keySize * n ≤ length (now roster) ⌝ }
     ensures { λ r. ⌜ r ≡ paper.everyReplica n (paper.single (now (roster .entry))) ⌝ }

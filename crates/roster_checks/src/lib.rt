@@ -7,12 +7,12 @@ ghost use Rattle.roster.specs.Roster as paper;
 
 mod keys;
 
-// The replicas that a roster may have.
-const BOARDS_MIN: usize = 3;
+// The replicas that a roster may have (document 01, "What stops an audit", number 2).
+const REPLICAS_MIN: usize = 3;
 
-const BOARDS_MAX: usize = 9;
+const REPLICAS_MAX: usize = 9;
 
-// The types that a key may have.
+// The types that a key may have (document 01, "What stops an audit", number 3).
 const ONE_TIME: u32 = 4;
 
 const TREE_MIN: u32 = 5;
@@ -27,10 +27,10 @@ fn sized(roster: &[u8]) -> bool
         return false;
     }
     let n = roster::replicas(roster);
-    if n < BOARDS_MIN {
+    if n < REPLICAS_MIN {
         return false;
     }
-    if BOARDS_MAX < n {
+    if REPLICAS_MAX < n {
         return false;
     }
     roster.len() == roster::HEAD_SIZE + lm_format::KEY_SIZE * n
@@ -62,8 +62,9 @@ fn typed(roster: &[u8], k: usize) -> bool
     tree == roster::tree_type(roster, 1)
 }
 
-// Whether the types of replicas 1 to n are. Rattle has no function parameters, so that this loop and that of
-// `keys::all_single` stand apart; their laws are one (roster/proofs/EveryReplica.antt).
+// Whether the types of each of replicas 1 to n are allowed, and its tree type is that of replica 1. Rattle
+// has no function parameters, so that this loop and that of `keys::all_single` stand apart; their laws are
+// one (roster/proofs/EveryReplica.antt).
 fn all_typed(roster: &[u8], n: usize) -> bool
     requires { ⌜ paper.headSize + keySize * n ≤ length (now roster) ⌝ }
     ensures { λ r. ⌜ r ≡ paper.everyReplica n (paper.typed (now (roster .entry))) ⌝ }

@@ -1,5 +1,5 @@
--- What the digest service answers (document 01, "Digest and signature"): its number, and what stands in the digest's
--- 32 bytes afterwards.
+-- What the digest service answers (document 01, "Digest and signature"): its number, and what stands in the
+-- digest's 32 bytes afterwards.
 use mathlib.Core.Bool.{Bool, cond}
 use mathlib.Core.List.{List}
 use Prim.Native.Nat.{ℕ}

@@ -1,14 +1,15 @@
--- SHA-256 of a list of bytes, as FIPS 180-4 defines it. Words are of 32 bits, numbers below 2^32: the operations on them, the
--- functions of 4.1.2 and the message schedule stand in `sha256_schedule`.
+-- SHA-256 of a list of bytes, as FIPS 180-4 defines it. Words are of 32 bits, numbers below 2^32: the
+-- operations on them, the functions of 4.1.2 and the message schedule stand in `sha256_schedule`.
 use mathlib.Core.List.{List, [], _∷_, _++_, flatMap}
 use Prim.Native.Nat.{ℕ, zero, suc, _-_, _*_, _/_, _%_}
 use lib.ListN.{length, getD, take, drop, replicate}
 use Rattle.words.specs.BigEndian.{number, be}
 use Rattle.sha256.specs.declared.State.{State}
 use Rattle.sha256_tables.specs.Constants.{constants, initialWords}
-unfoldable pub use Rattle.sha256_schedule.specs.Words.{_⊞_, shr, rotr, ch, maj, Σ₀, Σ₁, σ₀, σ₁, nextWord, extend, schedule}
+unfoldable pub use Rattle.sha256_schedule.specs.Words.{_⊞_, shr, rotr, ch, maj, Σ₀, Σ₁, σ₀, σ₁}
+unfoldable pub use Rattle.sha256_schedule.specs.Words.{nextWord, extend, schedule}
 
--- ---- 5.1.1: padding, in bytes: a one bit with seven zeros, the fewest zero bytes, the length in bits as 8 bytes
+-- ---- 5.1.1: padding, in bytes: a one bit and seven zeros, the fewest zero bytes, 8 bytes of length in bits
 
 -- the fewest zero bytes that bring `length` + 1 to 56 modulo 64
 unfoldable pub zeros : ℕ → ℕ

@@ -1,4 +1,4 @@
-// SHA-256 (FIPS 180-4): the state by value, and its methods (document 01, "Digest and signature").
+// SHA-256 (FIPS 180-4, 5.1.1 to 6.2.2): the state by value, and its methods.
 ghost use mathlib.Core.Path.{_≡_};
 ghost use Prim.Native.Nat.{_+_, _-_, _%_, _^_, _≤_, _<_};
 ghost use mathlib.Core.List.{_∷_, _++_, flatMap};
@@ -112,8 +112,9 @@ impl State {
         self.round(k[t], w[t])
     }
 
-    // The rounds stand in eight functions of one shape, with literal numbers: the compiler takes a function of this size into its
-    // caller only where it is called from one place, and one loop over eight rounds is slower.
+    // The rounds stand in eight functions of one shape, with literal numbers: the compiler takes a function
+    // of this size into its caller only where it is called from one place, and one loop over eight rounds
+    // is slower.
 
     // Rounds 0 to 7.
     fn rounds_0(self, k: &[u32; 64], w: &[u32; 64]) -> State

@@ -1,4 +1,5 @@
-// Words of four lanes side by side, and FIPS 180-4's functions of them in a shape from which the compiler forms vector instructions.
+// Words of four lanes side by side, and the functions of FIPS 180-4, 4.1.2, on them, in a shape from which
+// the compiler forms vector instructions.
 ghost use mathlib.Core.Path.{_≡_};
 ghost use Prim.Native.Nat.{ℕ, _+_, _*_, _≤_};
 ghost use lib.ListN.{length};
@@ -12,6 +13,7 @@ use functions::word;
 // A word in each lane.
 pub struct Lanes(pub u32, pub u32, pub u32, pub u32);
 
+// One word, the same in each lane.
 pub fn same(x: u32) -> Lanes
     ensures { λ r. ⌜ ((l : Lane) → lane l r ≡ x) ⌝ }
 {
@@ -40,9 +42,11 @@ pub fn at(w: &[u32], i: usize) -> Lanes
     Lanes(w[n], w[n + 1], w[n + 2], w[n + 3])
 }
 
+// Makes words those at place i of such a list.
 pub fn put(w: &mut [u32], i: usize, v: Lanes)
     requires { ⌜ 4 * i + 4 ≤ length (now w) ⌝ }
-    ensures { λ _. ⌜ ((l : Lane) (k : ℕ) → wordIn l (now (w .exit)) k ≡ changed i (lane l v) (wordIn l (now (w .entry))) k) ⌝ }
+    ensures { λ _. ⌜ ((l : Lane) (k : ℕ) → wordIn l (now (w .exit)) k
+        ≡ changed i (lane l v) (wordIn l (now (w .entry))) k) ⌝ }
 {
     let n = 4 * i;
     w[n] = v.0;

@@ -1,4 +1,5 @@
--- Operations on words and the message schedule, as FIPS 180-4 defines them. Words are of 32 bits, numbers below 2^32.
+-- Operations on words and the message schedule, as FIPS 180-4 defines them. Words are of 32 bits, numbers
+-- below 2^32.
 use mathlib.Core.List.{List, [], _∷_, _++_}
 use Prim.Native.Nat.{ℕ, zero, suc, _+_, _-_, _*_, _/_, _%_, _^_}
 use lib.Bits.{bitAnd, bitOr, bitXor}

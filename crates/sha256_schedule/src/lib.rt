@@ -22,18 +22,20 @@ fn next(w16: u32, w15: u32, w7: u32, w2: u32) -> u32
 // The word at place t, after which one word more is the schedule's.
 fn word(w: &mut [u32; 64], t: usize)
     requires { ⌜ (16 ≤ t) × (t < 64) ⌝ }
-    ensures { λ _. ⌜ ((m : List ℕ) → (length (now (w .entry)) ≡ 64) × (take t (now (w .entry)) ≡ fips.extend (t - 16) m)
+    ensures { λ _. ⌜ ((m : List ℕ) → (length (now (w .entry)) ≡ 64)
+        × (take t (now (w .entry)) ≡ fips.extend (t - 16) m)
         → (length (now (w .exit)) ≡ 64) × (take (t + 1) (now (w .exit)) ≡ fips.extend (t + 1 - 16) m)) ⌝ }
 {
     w[t] = next(w[t - 16], w[t - 15], w[t - 7], w[t - 2]);
 }
 
-// The words stand in six functions of one shape, with literal places, as the rounds of `sha256` do and for the same reason: in a
-// loop they are not mixed with the rounds, and a block takes a fifth longer.
+// The words stand in six functions of one shape, with literal places, as the rounds of `sha256` do and for
+// the same reason: in a loop they are not mixed with the rounds, and a block takes a fifth longer.
 
 // The words at places 16 to 23.
 fn words_16(w: &mut [u32; 64])
-    ensures { λ _. ⌜ ((m : List ℕ) → (length (now (w .entry)) ≡ 64) × (take 16 (now (w .entry)) ≡ fips.extend 0 m)
+    ensures { λ _. ⌜ ((m : List ℕ) → (length (now (w .entry)) ≡ 64)
+        × (take 16 (now (w .entry)) ≡ fips.extend 0 m)
         → (length (now (w .exit)) ≡ 64) × (take 24 (now (w .exit)) ≡ fips.extend 8 m)) ⌝ }
 {
     word(w, 16);
@@ -48,7 +50,8 @@ fn words_16(w: &mut [u32; 64])
 
 // The words at places 24 to 31.
 fn words_24(w: &mut [u32; 64])
-    ensures { λ _. ⌜ ((m : List ℕ) → (length (now (w .entry)) ≡ 64) × (take 24 (now (w .entry)) ≡ fips.extend 8 m)
+    ensures { λ _. ⌜ ((m : List ℕ) → (length (now (w .entry)) ≡ 64)
+        × (take 24 (now (w .entry)) ≡ fips.extend 8 m)
         → (length (now (w .exit)) ≡ 64) × (take 32 (now (w .exit)) ≡ fips.extend 16 m)) ⌝ }
 {
     word(w, 24);
@@ -63,7 +66,8 @@ fn words_24(w: &mut [u32; 64])
 
 // The words at places 32 to 39.
 fn words_32(w: &mut [u32; 64])
-    ensures { λ _. ⌜ ((m : List ℕ) → (length (now (w .entry)) ≡ 64) × (take 32 (now (w .entry)) ≡ fips.extend 16 m)
+    ensures { λ _. ⌜ ((m : List ℕ) → (length (now (w .entry)) ≡ 64)
+        × (take 32 (now (w .entry)) ≡ fips.extend 16 m)
         → (length (now (w .exit)) ≡ 64) × (take 40 (now (w .exit)) ≡ fips.extend 24 m)) ⌝ }
 {
     word(w, 32);
@@ -78,7 +82,8 @@ fn words_32(w: &mut [u32; 64])
 
 // The words at places 40 to 47.
 fn words_40(w: &mut [u32; 64])
-    ensures { λ _. ⌜ ((m : List ℕ) → (length (now (w .entry)) ≡ 64) × (take 40 (now (w .entry)) ≡ fips.extend 24 m)
+    ensures { λ _. ⌜ ((m : List ℕ) → (length (now (w .entry)) ≡ 64)
+        × (take 40 (now (w .entry)) ≡ fips.extend 24 m)
         → (length (now (w .exit)) ≡ 64) × (take 48 (now (w .exit)) ≡ fips.extend 32 m)) ⌝ }
 {
     word(w, 40);
@@ -93,7 +98,8 @@ fn words_40(w: &mut [u32; 64])
 
 // The words at places 48 to 55.
 fn words_48(w: &mut [u32; 64])
-    ensures { λ _. ⌜ ((m : List ℕ) → (length (now (w .entry)) ≡ 64) × (take 48 (now (w .entry)) ≡ fips.extend 32 m)
+    ensures { λ _. ⌜ ((m : List ℕ) → (length (now (w .entry)) ≡ 64)
+        × (take 48 (now (w .entry)) ≡ fips.extend 32 m)
         → (length (now (w .exit)) ≡ 64) × (take 56 (now (w .exit)) ≡ fips.extend 40 m)) ⌝ }
 {
     word(w, 48);
@@ -108,7 +114,8 @@ fn words_48(w: &mut [u32; 64])
 
 // The words at places 56 to 63.
 fn words_56(w: &mut [u32; 64])
-    ensures { λ _. ⌜ ((m : List ℕ) → (length (now (w .entry)) ≡ 64) × (take 56 (now (w .entry)) ≡ fips.extend 40 m)
+    ensures { λ _. ⌜ ((m : List ℕ) → (length (now (w .entry)) ≡ 64)
+        × (take 56 (now (w .entry)) ≡ fips.extend 40 m)
         → (length (now (w .exit)) ≡ 64) × (take 64 (now (w .exit)) ≡ fips.extend 48 m)) ⌝ }
 {
     word(w, 56);

@@ -48,8 +48,8 @@ pub data PrimesFrom : ℕ → List ℕ → Type 0 where
   skip : {n : ℕ} {ps : List ℕ} → (Prime n → ⊥) → PrimesFrom (suc n) ps → PrimesFrom n ps
   keep : {n : ℕ} {ps : List ℕ} → Prime n → PrimesFrom (suc n) ps → PrimesFrom n (n ∷ ps)
 
--- k is the first 32 bits of the fraction of p's root of the given degree, in whole numbers: with some whole part,
--- whole × 2^32 + k is the largest number whose power is at most p × 2^(32 × degree)
+-- k is the first 32 bits of the fraction of p's root of the given degree, in whole numbers: with some whole
+-- part, whole × 2^32 + k is the largest number whose power is at most p × 2^(32 × degree)
 pub record RootFraction (degree p k : ℕ) : Type 0 where
   pub whole : ℕ
   pub word : k < 2 ^ 32

@@ -1,4 +1,4 @@
-// The tables of SHA-256 (FIPS 180-4). Their rules are proved in `proofs/Tables.antt`.
+// The tables of SHA-256 (FIPS 180-4, 4.2.2 and 5.3.3). Their rules are proved in `proofs/Tables.antt`.
 
 // The constants of the rounds (FIPS 180-4, 4.2.2).
 pub const K: [u32; 64] = [

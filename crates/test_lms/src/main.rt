@@ -1,8 +1,12 @@
-// Prints for each line of two files of published LMS vectors, in the files' order, whether its signature is good: 1 or 0.
-// A line of a file is a name, 1 or 0, the key, the message and the signature. The second is not read here: the file `stdout` has them.
+// Prints for each line of two files of published LMS vectors, in the files' order, whether its signature is
+// good: 1 or 0. A line of a file is a name, 1 or 0, the key, the message and the signature. The second is not
+// read here: the file `stdout` has them.
 use libc::STDOUT_FILENO;
 use lm_answer::Answer;
 ghost use Rattle.io.specs.Counts.{Counts};
+
+// More bytes than either file has.
+const TEXT_SIZE: usize = 524288;
 
 // Prints an answer as a line.
 fn print_answer(answer: Answer) {
@@ -44,7 +48,8 @@ fn print_line(text: &[u8]) {
     print_answer(lms::check(&key[..k], &message[..m], &signature[..s]));
 }
 
-// Prints the answer for each line. (`sha256_vectors` has the same loop around another function: Rattle has no function parameters.)
+// Prints the answer for each line. (`test_sha256` has the same loop around another function: Rattle has no
+// function parameters.)
 fn print_lines(text: &[u8]) {
     let mut at = 0;
     while at < text.len() {
@@ -55,7 +60,7 @@ fn print_lines(text: &[u8]) {
 
 // Prints the answers for a file's lines. A file that cannot be read whole is an error in the output.
 fn print_file(name: &[u8]) {
-    let mut text = [0u8; 524288];
+    let mut text = [0u8; TEXT_SIZE];
     let n = test_vectors::load(name, &mut text);
     if n == 0 {
         io::write_all(STDOUT_FILENO, b"cannot read\n");

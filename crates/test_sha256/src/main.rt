@@ -20,7 +20,7 @@ fn print_digest(digits: &[u8]) {
     }
 }
 
-// Prints the digest of each line's message. (`lms_vectors` has the same loop around another function.)
+// Prints the digest of each line's message. (`test_lms` has the same loop around another function.)
 fn print_lines(text: &[u8]) {
     let mut at = 0;
     while at < text.len() {

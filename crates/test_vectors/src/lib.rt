@@ -5,7 +5,8 @@ ghost use Prim.Native.Nat.{_+_, _≤_, _<_};
 ghost use lib.ListN.{length};
 ghost use Rattle.io.specs.Counts.{Counts};
 
-// Puts the file at the start of `text`, and gives its length; 0 if the file cannot be opened or is not shorter than `text`.
+// Puts the file at the start of `text`, and gives its length; 0 if the file cannot be opened or is not
+// shorter than `text`.
 pub fn load(name: &[u8], text: &mut [u8]) -> usize
     ensures { λ r. ⌜ Counts r (now (text .exit)) ⌝ }
 {

@@ -1,4 +1,5 @@
--- The lines that the program prints of a report's bytes (document 01, "The report"): number and where, the fork index, then each named replica, rising.
+-- The lines that the program prints of a report's bytes (document 01, "The report"): number and where, the
+-- fork index, then each named replica, rising.
 use mathlib.Core.Bool.{cond}
 use mathlib.Core.List.{List, [], _++_}
 use Prim.Native.Nat.{ℕ, zero, suc, _+_, _-_, _*_}
@@ -14,7 +15,9 @@ rowAt k = 8 + 5 * (k - 1)
 -- the line of replica k, if it is named
 unfoldable pub namedLine : List ℕ → ℕ → List ℕ
 namedLine report k =
-    cond (signer (numberAt 2 report 6) k) (replicaLine k (getD report (rowAt k) 0) (numberAt 4 report (rowAt k + 1))) []
+    cond (signer (numberAt 2 report 6) k)
+    (replicaLine k (getD report (rowAt k) 0) (numberAt 4 report (rowAt k + 1)))
+    []
 
 -- the lines of so many replicas from replica k on
 unfoldable pub replicaLines : List ℕ → ℕ → ℕ → List ℕ
@@ -23,4 +26,6 @@ replicaLines report (suc count) k = namedLine report k ++ replicaLines report co
 
 -- number and where, the fork index, and replicas 1 to 9
 unfoldable pub lines : List ℕ → List ℕ
-lines report = refusalLine (getD report 0 0) (getD report 1 0) ++ forkLine (numberAt 4 report 2) ++ replicaLines report 9 1
+lines report =
+    refusalLine (getD report 0 0) (getD report 1 0) ++ forkLine (numberAt 4 report 2)
+    ++ replicaLines report 9 1

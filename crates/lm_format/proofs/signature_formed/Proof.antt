@@ -6,8 +6,8 @@ use Rattle.lm_digits.proofs.Figures.{known-few}
 use Rattle.lm_format.specs.Format.{oneTimeBytes, pathAt, signatureLength}
 use Rattle.lm_format.proofs.Forms.{shifted-one, wrong-length, wrong-one-time, wrong-tree, wrong-leaf, right}
 use borrow.Author.Needs.{needs}
-use Rattle.lm_format.proofs.formed.Statement.{statement}
-use Rattle.lm_format.proofs.formed.Tie as tie
+use Rattle.lm_format.proofs.signature_formed.Statement.{statement}
+use Rattle.lm_format.proofs.signature_formed.Tie as tie
 
 add-end : tie.Need-add-end
 add-end c = omega (arith, known-few (c .before .before .before .pre .0 .number) (c .before .before .before .pre .0 .found))
@@ -75,8 +75,8 @@ returns-5 c =
     (sym (c .before .before .before .before .u32-at3 .ensures .0) ∙ c .before .before .if3 .left ∙ c .before .before .before .u32-at4 .ensures .0)
     (rw (← c .before .u32-at5 .ensures .0, ← shifted-one (a .h) (start .pre .1)) (c .if4 .left))
 
-pub formed-spec : {M : Type 1} → statement M
-formed-spec =
+pub signature-formed-spec : {M : Type 1} → statement M
+signature-formed-spec =
     tie.close
     (tie.spec
     add-end

@@ -1,0 +1,6 @@
+-- Sizes that the code above asks about.
+use Prim.Native.Nat.{ℕ}
+
+-- the most bytes of a signature: S of tree type 9, with 25 levels (document 01, "Bench figures")
+abbrev pub signatureMost : ℕ
+signatureMost = 1932
