@@ -8,6 +8,11 @@ ghost use Rattle.lm_digits.specs.Listed.{chainsMost};
 use super::CHAINS_MOST;
 use super::Parameters;
 
+// The bytes of Q (RFC 8554, 4.1: n), and of Q || Cksm(Q) (4.4).
+const HASH_SIZE: usize = 32;
+
+pub const CHECKED_SIZE: usize = HASH_SIZE + 2;
+
 // Digit i of a byte string (RFC 8554, 3.1.3): 8 / bits digits stand in a byte, the first in its
 // highest bits.
 pub fn digit(s: &[u8], bits: u32, i: usize) -> u32
@@ -39,18 +44,18 @@ pub fn digit_sum(s: &[u8], bits: u32) -> u32
 }
 
 // Q || Cksm(Q) (RFC 8554, 4.6, algorithm 4b, step 3).
-pub fn with_checksum(q: [u8; 32], o: Parameters) -> [u8; 34]
+pub fn with_checksum(q: [u8; HASH_SIZE], o: Parameters) -> [u8; CHECKED_SIZE]
     requires { ⌜ (o .bits * (8 / o .bits) ≡ 8) × (o .shift < 32) ⌝ }
     ensures { λ r. ⌜ r ≡ withChecksum o q ⌝ }
 {
     let checksum = digit_sum(&q, o.bits) << o.shift;
-    let mut s = [0u8; 34];
+    let mut s = [0u8; CHECKED_SIZE];
     let mut i = 0;
-    while i < 32 {
+    while i < HASH_SIZE {
         s[i] = q[i];
         i += 1;
     }
-    words::put_u16(&mut s, 32, (checksum % 65536) as u16);
+    words::put_u16(&mut s, HASH_SIZE, (checksum % 65536) as u16);
     s
 }
 

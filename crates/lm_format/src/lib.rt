@@ -6,10 +6,22 @@ ghost use lib.ListN.{length};
 ghost use Rattle.lm_digits.specs.Listed.{Listed};
 ghost use Rattle.lm_format.specs.Format as rfc;
 ghost use Rattle.lm_format.specs.Formed as tests;
+ghost use Rattle.lm_format.specs.Bounds.{heightMost};
 use lm_digits::Parameters;
 
 // The bytes of a key (RFC 8554, 5.3).
 pub const KEY_SIZE: usize = 56;
+
+// Where I and T[1] stand in a key, after the two types (RFC 8554, 5.3).
+pub const IDENTIFIER_AT: usize = 8;
+
+pub const ROOT_AT: usize = 24;
+
+// Where C and y stand in a signature, after q and the one-time type; and the bytes of the tree type after
+// them (RFC 8554, 5.4).
+pub const ONE_TIME_AT: usize = 8;
+
+pub const TYPE_SIZE: usize = 4;
 
 // The height of a tree type.
 pub enum Height {
@@ -34,11 +46,11 @@ pub fn height_of(number: u32) -> Height
 // Whether the length, the types and the leaf number of a signature are right for a key of known types (RFC
 // 8554, 5.4.2, algorithm 6a, step 2).
 pub fn signature_formed(o: Parameters, h: u32, key: &[u8], signature: &[u8]) -> bool
-    requires { ⌜ Listed o × (h ≤ 25) × (length (now key) ≡ rfc.keySize) ⌝ }
+    requires { ⌜ Listed o × (h ≤ heightMost) × (length (now key) ≡ rfc.keySize) ⌝ }
     ensures { λ r. ⌜ r ≡ tests.formed o h (now (key .entry)) (now (signature .entry)) ⌝ }
 {
-    let end = 8 + 32 * (o.chains + 1);
-    if signature.len() != end + 4 + 32 * (h as usize) {
+    let end = ONE_TIME_AT + 32 * (o.chains + 1);
+    if signature.len() != end + TYPE_SIZE + 32 * (h as usize) {
         return false;
     }
     if words::u32_at(signature, 4) != words::u32_at(key, 4) {

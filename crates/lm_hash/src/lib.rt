@@ -7,12 +7,17 @@ ghost use lib.Seq.{sets};
 ghost use Rattle.words.specs.BigEndian.{be};
 ghost use Rattle.sha256.specs.Service.{limit};
 ghost use Rattle.sha256.specs.Sha256.{bytesOf};
-ghost use Rattle.lm_hash.specs.Identifier.{identifier};
+ghost use Rattle.lm_hash.specs.Identifier.{identifier, headSize};
 ghost use Rattle.lm_hash.specs.Tagged as rfc;
 
 pub mod message;
 
 use sha256::State;
+
+// The bytes of I, q and d, with which every hash begins; and of these and the salt C after them.
+const HEAD_SIZE: usize = 16 + 4 + 2;
+
+const SALTED_SIZE: usize = HEAD_SIZE + 32;
 
 // One leaf of a key: the key's identifier I as four words, and the leaf's number q.
 pub struct Leaf {
@@ -57,7 +62,7 @@ pub fn leaf_at(s: &[u8], at: usize, q: u32) -> Leaf
 // The 22 bytes I, q, d that every hash begins with, and ten zeros.
 fn head(leaf: Leaf, q: u32, d: u32) -> [u8; 32]
     requires { ⌜ d < 65536 ⌝ }
-    ensures { λ r. ⌜ take 22 r ≡ identifier leaf ++ be 4 q ++ be 2 d ⌝ }
+    ensures { λ r. ⌜ take headSize r ≡ identifier leaf ++ be 4 q ++ be 2 d ⌝ }
 {
     State {
         a: leaf.i0,
@@ -77,7 +82,7 @@ pub fn tagged(leaf: Leaf, q: u32, d: u32, rest: &[u8]) -> State
     ensures { λ r. ⌜ bytesOf r ≡ rfc.tagged (identifier leaf) q d (now (rest .entry)) ⌝ }
 {
     let bytes = head(leaf, q, d);
-    message::joined(&bytes[..22], rest)
+    message::joined(&bytes[..HEAD_SIZE], rest)
 }
 
 // H(I || u32str(q) || u16str(d) || salt || message), with no copy of the message.
@@ -87,8 +92,8 @@ pub fn tagged_message(leaf: Leaf, q: u32, d: u32, salt: &[u8], message: &[u8]) -
         ≡ rfc.tagged (identifier leaf) q d (now (salt .entry) ++ now (message .entry)) ⌝ }
 {
     let bytes = head(leaf, q, d);
-    let block = message::first_block(&bytes[..22], salt);
-    message::joined(&block[..54], message)
+    let block = message::first_block(&bytes[..HEAD_SIZE], salt);
+    message::joined(&block[..SALTED_SIZE], message)
 }
 
 // Writes a hash value to the 32 bytes at a place.

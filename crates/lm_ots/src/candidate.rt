@@ -5,7 +5,7 @@ ghost use lib.ListN.{length, take, drop};
 ghost use Rattle.sha256.specs.Service.{limit};
 ghost use Rattle.sha256.specs.Sha256.{bytesOf};
 ghost use Rattle.lm_hash.specs.Identifier.{identifier};
-ghost use Rattle.lm_digits.specs.Listed.{Listed};
+ghost use Rattle.lm_digits.specs.Listed.{Listed, checkedSize};
 ghost use Rattle.lm_ots.specs.Candidate as rfc;
 use super::walk;
 use lm_digits::CHAINS_MOST;
@@ -25,7 +25,7 @@ const ENDS_MOST: usize = 32 * CHAINS_MOST;
 
 // Writes the ends of all chains, one after the other.
 fn put_ends(leaf: Leaf, o: Parameters, s: &[u8], y: &[u8], out: &mut [u8])
-    requires { ⌜ Listed o × (length (now s) ≡ 34) × (length (now y) ≡ 32 * o .chains)
+    requires { ⌜ Listed o × (length (now s) ≡ checkedSize) × (length (now y) ≡ 32 * o .chains)
         × (32 * o .chains ≤ length (now out)) ⌝ }
     ensures { λ _. ⌜ take (32 * o .chains) (now (out .exit))
         ≡ rfc.ends o (identifier leaf) (leaf .q) (now (s .entry)) (now (y .entry)) (o .chains) ⌝ }

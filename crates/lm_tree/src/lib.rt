@@ -7,6 +7,7 @@ ghost use lib.Dec.{eqb};
 ghost use lib.ListN.{length};
 ghost use Rattle.sha256.specs.Sha256.{bytesOf};
 ghost use Rattle.lm_hash.specs.Identifier.{identifier};
+ghost use Rattle.lm_format.specs.Bounds.{heightMost};
 ghost use Rattle.lm_tree.specs.Tree as rfc;
 use lm_hash::Leaf;
 use sha256::State;
@@ -66,7 +67,7 @@ fn climb(leaf: Leaf, levels: u32, start: u32, value: State, path: &[u8]) -> Stat
 
 // The root's value from a leaf's number, its candidate key and its path.
 pub fn root(leaf: Leaf, h: u32, kc: State, path: &[u8]) -> State
-    requires { ⌜ (h ≤ 25) × (leaf .q < 2 ^ h) × (length (now path) ≡ 32 * h) ⌝ }
+    requires { ⌜ (h ≤ heightMost) × (leaf .q < 2 ^ h) × (length (now path) ≡ 32 * h) ⌝ }
     ensures { λ r. ⌜ bytesOf r ≡ rfc.root (identifier leaf) h (leaf .q) (bytesOf kc) (now (path .entry)) ⌝ }
 {
     let node = (1 << h) + leaf.q;

@@ -6,25 +6,30 @@ ghost use Rattle.words.specs.BigEndian.{numberAt, same};
 ghost use Rattle.sha256.specs.Service.{limit};
 ghost use Rattle.sha256.specs.Sha256.{bytesOf};
 ghost use Rattle.lm_digits.specs.Listed.{Listed};
+ghost use Rattle.lm_format.specs.Bounds.{heightMost};
 ghost use Rattle.lm_format.specs.Format.{keySize, signatureLength};
 ghost use Rattle.lms.specs.Check as rfc;
 use lm_answer::Answer;
 use lm_digits::OneTime;
 use lm_digits::Parameters;
 use lm_format::Height;
+use lm_format::IDENTIFIER_AT;
+use lm_format::ONE_TIME_AT;
+use lm_format::ROOT_AT;
+use lm_format::TYPE_SIZE;
 use sha256::State;
 
 // The root that a signature of the right length and leaf number leads to (RFC 8554, 5.4.2, algorithm 6a).
 fn root_of(o: Parameters, h: u32, key: &[u8], message: &[u8], signature: &[u8]) -> State
-    requires { ⌜ Listed o × (h ≤ 25) × (length (now key) ≡ keySize) × (length (now message) ≤ limit)
+    requires { ⌜ Listed o × (h ≤ heightMost) × (length (now key) ≡ keySize) × (length (now message) ≤ limit)
         × (length (now signature) ≡ signatureLength o h) × (numberAt 4 (now signature) 0 < 2 ^ h) ⌝ }
     ensures { λ r. ⌜ bytesOf r
         ≡ rfc.rootOf o h (now (key .entry)) (now (message .entry)) (now (signature .entry)) ⌝ }
 {
-    let leaf = lm_hash::leaf_at(key, 8, words::u32_at(signature, 0));
-    let end = 8 + 32 * (o.chains + 1);
-    let path = end + 4;
-    let candidate = lm_ots::candidate::candidate(leaf, o, message, &signature[8..end]);
+    let leaf = lm_hash::leaf_at(key, IDENTIFIER_AT, words::u32_at(signature, 0));
+    let end = ONE_TIME_AT + 32 * (o.chains + 1);
+    let path = end + TYPE_SIZE;
+    let candidate = lm_ots::candidate::candidate(leaf, o, message, &signature[ONE_TIME_AT..end]);
     lm_tree::root(leaf, h, candidate, &signature[path..])
 }
 
@@ -34,12 +39,13 @@ fn matches(root: State, key: &[u8]) -> bool
     ensures { λ r. ⌜ r ≡ same (bytesOf root) (drop 24 (now (key .entry))) ⌝ }
 {
     let bytes = root.bytes();
-    check::same(&bytes, &key[24..])
+    check::same(&bytes, &key[ROOT_AT..])
 }
 
 // Whether a signature verifies under a key of known types (RFC 8554, 5.4.2, algorithms 6 and 6a).
 fn verify(o: Parameters, h: u32, key: &[u8], message: &[u8], signature: &[u8]) -> bool
-    requires { ⌜ Listed o × (h ≤ 25) × (length (now key) ≡ keySize) × (length (now message) ≤ limit) ⌝ }
+    requires { ⌜ Listed o × (h ≤ heightMost) × (length (now key) ≡ keySize)
+        × (length (now message) ≤ limit) ⌝ }
     ensures { λ r. ⌜ r
         ≡ rfc.verifies o h (now (key .entry)) (now (message .entry)) (now (signature .entry)) ⌝ }
 {

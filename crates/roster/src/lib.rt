@@ -2,6 +2,7 @@
 ghost use mathlib.Core.Path.{_≡_};
 ghost use Prim.Native.Nat.{_+_, _*_, _≤_, _<_};
 ghost use lib.ListN.{length};
+ghost use Rattle.lm_format.specs.Bounds.{heightMost};
 ghost use Rattle.lm_format.specs.Format.{height, keySize};
 ghost use Rattle.roster.specs.Roster as paper;
 ghost use Rattle.roster.specs.Masks as masks;
@@ -13,8 +14,11 @@ pub const NAME_SIZE: usize = 16;
 
 pub const HEAD_SIZE: usize = 18;
 
-// The bytes of a signature before its path: q and the one-time type, C and y of 34 chains, and the tree type.
-const PATH_AT: usize = 8 + 32 * (34 + 1) + 4;
+// The chains of one-time type 4 (RFC 8554, 4.1, table 1).
+const CHAINS: usize = 34;
+
+// The bytes of a signature before its path: q and the one-time type, C and y, and the tree type.
+const PATH_AT: usize = lm_format::ONE_TIME_AT + 32 * (CHAINS + 1) + lm_format::TYPE_SIZE;
 
 // The bits of a mask.
 pub const MASK_BITS: usize = 16;
@@ -66,7 +70,7 @@ pub fn tree_type(roster: &[u8], k: usize) -> u32
 
 // The levels of a tree type, 0 for an unknown one.
 fn levels(number: u32) -> usize
-    ensures { λ r. ⌜ (r ≡ paper.levels (height number)) × (r ≤ 25) ⌝ }
+    ensures { λ r. ⌜ (r ≡ paper.levels (height number)) × (r ≤ heightMost) ⌝ }
 {
     match lm_format::height_of(number) {
         Height::Levels(h) => h as usize,

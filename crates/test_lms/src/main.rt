@@ -1,6 +1,6 @@
-// Prints for each line of two files of published LMS vectors, in the files' order, whether its signature is
-// good: 1 or 0. A line of a file is a name, 1 or 0, the key, the message and the signature. The second is not
-// read here: the file `stdout` has them.
+// Prints for each line of two files of published LMS vectors (RFC 8554; document 01, "Conditions of
+// acceptance"), in the files' order, whether its signature is good: 1 or 0. A line of a file is a name, 1 or
+// 0, the key, the message and the signature. The second is not read here: the file `stdout` has them.
 use libc::STDOUT_FILENO;
 use lm_answer::Answer;
 ghost use Rattle.io.specs.Counts.{Counts};

@@ -1,5 +1,5 @@
-// Test vectors: a text of lines, each of fields in hex that a space separates; `-` stands for no bytes.
-// The pieces that a program needs to read such a file, and to print bytes as the file has them.
+// Files of published test vectors (document 01, "Conditions of acceptance"), read and printed: a text of
+// lines, each of fields in hex that a space separates; `-` stands for no bytes.
 use libc::STDOUT_FILENO;
 ghost use Prim.Native.Nat.{_+_, _≤_, _<_};
 ghost use lib.ListN.{length};
