@@ -35,13 +35,10 @@ pub struct Row {
     pub term: u32,
 }
 
-// The replicas that have a row.
-pub const ROW_COUNT: usize = 9;
-
 // The fork index, and the rows of replicas 1 to 9.
 pub struct Findings {
     pub fork: u32,
-    pub rows: [Row; 9],
+    pub rows: [Row; forensics::ROW_COUNT],
 }
 
 // The row of a replica that is not named.

@@ -108,16 +108,16 @@ pub fn rows(
     first: Receipt,
     second: Receipt,
     size: usize,
-) -> [Row; 9]
+) -> [Row; forensics::ROW_COUNT]
     requires { ⌜ Bounds size (now a) × (laidOut 4 size (now a) ≡ true) × Bounds size (now b)
         × (laidOut 4 size (now b) ≡ true) ⌝ }
     ensures { λ r. ⌜ map inner.chargeOf r
         ≡ inner.rowsBy (λ k. lowest (inner.ruledBy k difference (tenuresOf size (now (a .entry)))
         (tenuresOf size (now (b .entry))) first second)) 9 1 ⌝ }
 {
-    let mut out = [Row { rule: 0, term: 0 }; 9];
+    let mut out = [Row { rule: 0, term: 0 }; forensics::ROW_COUNT];
     let mut i = 0;
-    while i < forensics_charges::ROW_COUNT {
+    while i < forensics::ROW_COUNT {
         out[i] = row(i + 1, difference, a, b, first, second, size);
         i += 1;
     }

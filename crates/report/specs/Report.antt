@@ -33,8 +33,11 @@ answer roster first second =
     cond (eqb (rosterNumber roster) 0)
     (cond (eqb a 0)
     (cond (eqb b 0)
-    (let found = findings (signatureSize roster) (viewOf roster first) (viewOf roster second) in
-    record { number = 0; place = 0; findings = found })
+    (record {
+      number = 0;
+      place = 0;
+      findings = findings (signatureSize roster) (viewOf roster first) (viewOf roster second);
+    })
     (refused b 2))
     (refused a 1))
     (refused (rosterNumber roster) 0)

@@ -28,7 +28,7 @@ fn put_head(out: &mut [u8], number: u32, place: u32, fork: u32, mask: u16)
 }
 
 // Writes a report: number, where, fork index and rows.
-fn put_report(out: &mut [u8], number: u32, place: u32, fork: u32, rows: [Row; 9])
+fn put_report(out: &mut [u8], number: u32, place: u32, fork: u32, rows: [Row; forensics::ROW_COUNT])
     requires { ⌜ reportSize ≤ length (now out) ⌝ }
     ensures { λ _. ⌜ now (out .exit)
         ≡ reportBytes (answered number place fork rows) ++ drop reportSize (now (out .entry)) ⌝ }
@@ -63,7 +63,7 @@ pub fn write_refused(report: &mut [u8], number: u32, place: u32) -> u32
     ensures bytes { λ _. ⌜ now (report .exit)
         ≡ reportBytes (refused number place) ++ drop reportSize (now (report .entry)) ⌝ }
 {
-    let rows = [Row { rule: 0, term: 0 }; 9];
+    let rows = [Row { rule: 0, term: 0 }; forensics::ROW_COUNT];
     put_report(report, number, place, 0, rows);
     number
 }

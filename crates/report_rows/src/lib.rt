@@ -32,13 +32,13 @@ fn put_row(out: &mut [u8], at: usize, row: Row)
 }
 
 // Writes nine rows, one after the other.
-pub fn put_rows(out: &mut [u8], rows: [Row; 9])
+pub fn put_rows(out: &mut [u8], rows: [Row; forensics::ROW_COUNT])
     requires { ⌜ reportSize ≤ length (now out) ⌝ }
     ensures { λ _. ⌜ now (out .exit)
         ≡ sets (now (out .entry)) rowsPlace (flatMap rowBytes (map chargeOf rows)) ⌝ }
 {
     let mut i: usize = 0;
-    while i < forensics_charges::ROW_COUNT {
+    while i < forensics::ROW_COUNT {
         put_row(out, ROWS_AT + ROW_SIZE * i, rows[i]);
         i += 1;
     }

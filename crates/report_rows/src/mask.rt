@@ -14,11 +14,11 @@ fn bit_of(row: Row) -> u16
 }
 
 // The named replicas: bit k - 1 is replica k.
-pub fn named_mask(rows: [Row; 9]) -> u16
+pub fn named_mask(rows: [Row; forensics::ROW_COUNT]) -> u16
     ensures { λ r. ⌜ r ≡ maskOf (map chargeOf rows) ⌝ }
 {
     let mut mask: u16 = 0;
-    let mut left: usize = forensics_charges::ROW_COUNT;
+    let mut left: usize = forensics::ROW_COUNT;
     while 0 < left {
         left -= 1;
         mask = mask * 2 + bit_of(rows[left]);

@@ -3,10 +3,10 @@
 // version 1, with terms of 4 bytes.
 
 // The bytes of a record: term and payload digest.
-pub const RECORD_SIZE: usize = 36;
+pub const RECORD_SIZE: usize = log_chain::RECORD_SIZE;
 
 // The bytes of a vote's fields, and of the signers after them.
-pub const BALLOT_SIZE: usize = 46;
+pub const BALLOT_SIZE: usize = log_chain::BALLOT_SIZE;
 
 pub const SIGNERS_SIZE: usize = 2;
 

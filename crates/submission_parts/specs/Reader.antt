@@ -15,12 +15,9 @@ use Rattle.submission_parts.specs.declared.CommitReading.{CommitReading}
 use Rattle.submission_parts.specs.declared.CommitReading.the-variants.{Read as ReadCommit}
 use Rattle.submission_parts.specs.declared.CommitReading.the-variants.{Refused as NoCommit}
 use Rattle.refusal.specs.Checks.{check, refusal}
+pub use Rattle.roster.specs.Sizes.{signatureMost}
 use Rattle.submission.specs.Reading.{ballotSize, ballotAt, signersAt, certificateEnd, certificatesEnd}
 use Rattle.submission.specs.Reading.{commitAt, commitEnd}
-
--- the most bytes of a signature
-abbrev pub signatureMost : ℕ
-signatureMost = 1932
 
 -- the bytes of a leader certificate before its signatures
 abbrev pub fieldsSize : ℕ

@@ -1,10 +1,6 @@
--- The bytes of a report, and the most bytes of its lines.
+-- The most bytes of a report's lines.
 use Prim.Native.Nat.{ℕ, _+_, _*_}
 use Rattle.text_line.specs.Room.{refusalRoom, forkRoom, replicaRoom}
-
--- a report, in bytes (document 01, "The report")
-abbrev pub reportBytes : ℕ
-reportBytes = 53
 
 -- the rows of a report: one for each replica that there can be
 abbrev pub rows : ℕ
