@@ -14,7 +14,7 @@ use Rattle.words.specs.BigEndian.{same}
 use Rattle.words.proofs.Same.{same-true, true-same, same-test}
 use Rattle.refusal.proofs.Laws.{look, cond-true}
 use Rattle.log_chain.specs.Log.{Record}
-use Rattle.replica.specs.Charges.{agree, sameRecord}
+use Rattle.log_chain.specs.Difference.{agree, sameRecord}
 
 -- ---- either way round
 

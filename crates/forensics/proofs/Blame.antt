@@ -18,13 +18,15 @@ use Rattle.roster.specs.Masks.{signer}
 use Rattle.roster.proofs.Quorums.{quorums-share}
 use Rattle.log_chain.specs.Log.{Form, Record, lastTerm}
 use Rattle.log_chain.specs.Claim.{Ballot, Claim, stamped, received, voted}
-use Rattle.replica.specs.Ends.{staler}
-use Rattle.replica.specs.Charges.{Charge, charge, clash, agree, twoVotes, twoStamps, staleVote}
-use Rattle.replica.proofs.Order.{fresh}
-use Rattle.submission.specs.View.{Run, runs, View, committed, Slot, slots}
+use Rattle.log_chain.specs.Ends.{staler}
+use Rattle.replica.specs.Charges.{Charge, charge, clash, twoVotes, twoStamps, staleVote}
+use Rattle.log_chain.specs.Difference.{agree}
+use Rattle.log_chain.proofs.Order.{fresh}
+use Rattle.log_chain.specs.Runs.{Run, runs}
+use Rattle.submission.specs.View.{View, committed, Slot, slots}
 use Rattle.submission.specs.Validate.{quorate}
 use Rattle.submission.proofs.Accepted.{Sound}
-use Rattle.submission.proofs.Runs.{run-begins, Reaches, run-reaches, Crosses, run-crosses}
+use Rattle.log_chain.proofs.Runs.{run-begins, Reaches, run-reaches, Crosses, run-crosses}
 use Rattle.submission.proofs.Slots.{mem-flatMap, Stands, Led, led, Settled, settled, quorate-facts}
 use Rattle.forensics.specs.Findings.{says, charges}
 use Rattle.forensics.proofs.Agree.{agree-sym, agree-nil, differ-within}

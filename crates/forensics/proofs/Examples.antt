@@ -9,10 +9,13 @@ use lib.ListN.{replicate}
 use Rattle.words.specs.BigEndian.{same}
 use Rattle.roster.specs.Masks.{replicasFrom, replicasOf}
 use Rattle.log_chain.specs.Log.{Record, termFrom, lastTerm}
-use Rattle.replica.specs.Ends.{staler}
-use Rattle.replica.specs.Charges.{Charge, charge, clash, twoVotes, twoStamps, staleVote, agree, sameRecord}
-use Rattle.submission.specs.View.{run, runsFrom, runs, runsAfter, Certificate, View, leadsOf, leads, committedBy, committed, slot, certified, votesOf, stampOf, receiptsOf, slots}
-use Rattle.forensics.specs.Findings.{differAt, fork, says, charges, sooner, lower, lowest, rowsFrom, bit, maskOf, Findings, findings}
+use Rattle.log_chain.specs.Ends.{staler}
+use Rattle.replica.specs.Charges.{Charge, charge, clash, twoVotes, twoStamps, staleVote}
+use Rattle.log_chain.specs.Difference.{agree, sameRecord}
+use Rattle.log_chain.specs.Runs.{run, runsFrom, runs, runsAfter}
+use Rattle.submission.specs.View.{Certificate, View, leadsOf, leads, committedBy, committed, slot, certified, votesOf, stampOf, receiptsOf, slots}
+use Rattle.log_chain.specs.Difference.{differAt}
+use Rattle.forensics.specs.Findings.{fork, says, charges, sooner, lower, lowest, rowsFrom, bit, maskOf, Findings, findings}
 
 -- a record of a term, with one byte of its payload digest
 of : ℕ → ℕ → Record

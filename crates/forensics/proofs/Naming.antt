@@ -6,7 +6,7 @@ use Prim.Native.Nat.{ℕ, _≤_, _<_}
 use native.Mathlib.Nat.{le-trans}
 use lib.Dec.{lit≤}
 use Rattle.log_chain.specs.Log.{Form}
-use Rattle.replica.specs.Charges.{agree}
+use Rattle.log_chain.specs.Difference.{agree}
 use Rattle.submission.specs.View.{View, committed, slots}
 use Rattle.submission.proofs.Accepted.{Sound}
 use Rattle.forensics.specs.Findings.{rowCount, findings, maskOf}

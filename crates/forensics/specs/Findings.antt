@@ -5,19 +5,13 @@ use mathlib.Core.List.{List, [], _∷_, flatMap}
 use mathlib.Core.Option.{Option, some, none}
 use Prim.Native.Nat.{ℕ, zero, suc, _+_, _*_}
 use lib.Dec.{eqb}
-use Rattle.log_chain.specs.Log.{Record}
 use Rattle.log_chain.specs.Claim.{Claim}
-use Rattle.replica.specs.Ends.{staler}
-use Rattle.replica.specs.Charges.{Charge, clash, sameRecord}
+use Rattle.log_chain.specs.Difference.{differAt}
+use Rattle.log_chain.specs.Ends.{staler}
+use Rattle.replica.specs.Charges.{Charge, clash}
 use Rattle.submission.specs.View.{View, committed, Slot, slots}
 
 -- ---- the fork
-
--- the lowest index, from i on, whose records differ; 0 if none
-unfoldable pub differAt : ℕ → List Record → List Record → ℕ
-differAt i [] m = 0
-differAt i (r ∷ l) [] = 0
-differAt i (r ∷ l) (s ∷ m) = cond (sameRecord r s) (differAt (suc i) l m) i
 
 -- the lowest index, committed in both, whose records differ
 unfoldable pub fork : View → View → ℕ

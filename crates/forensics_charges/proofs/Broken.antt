@@ -10,7 +10,7 @@ use lib.Dec.{eqb, leb, ltb}
 use Rattle.refusal.specs.Checks.{all}
 use Rattle.refusal.proofs.Laws.{first-fails, first-holds, all-one}
 use Rattle.roster.specs.Masks.{signer}
-use Rattle.replica.specs.Ends.{staler}
+use Rattle.log_chain.specs.Ends.{staler}
 use Rattle.forensics_charges.specs.declared.Tenure.{Tenure}
 use Rattle.forensics_charges.specs.declared.Receipt.{Receipt}
 use Rattle.forensics_charges.specs.Rules.{twoCandidates, twoLogs, forgotten}

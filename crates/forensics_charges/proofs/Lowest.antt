@@ -11,9 +11,9 @@ use native.Mathlib.Omega.{arith}
 use borrow.Author.Tests.{eqb-true, ltb-true}
 use lib.Dec.{eqb, ltb}
 use Rattle.refusal.proofs.Laws.{look}
-use Rattle.replica.specs.Ends.{staler}
+use Rattle.log_chain.specs.Ends.{staler}
 use Rattle.replica.specs.Charges.{Charge}
-use Rattle.replica.proofs.Order.{Fresh, fresh, not-staler, fresh-trans}
+use Rattle.log_chain.proofs.Order.{Fresh, fresh, not-staler, fresh-trans}
 use Rattle.forensics.specs.Findings.{sooner, lower, lowest}
 use Rattle.forensics_charges.specs.Charges.{least}
 

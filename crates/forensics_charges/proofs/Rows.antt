@@ -7,7 +7,7 @@ use mathlib.Core.Option.{Option, some, none}
 use Prim.Native.Nat.{ℕ, _<_}
 use native.Mathlib.Omega.{arith}
 use borrow.Author.Tests.{eq-eqb, ne-eqb}
-use Rattle.replica.specs.Ends.{staler}
+use Rattle.log_chain.specs.Ends.{staler}
 use Rattle.replica.specs.Charges.{Charge, charge}
 use Rattle.forensics.specs.Findings.{sooner, lower, lowest}
 use Rattle.forensics_charges.specs.declared.Row.{Row}

@@ -5,7 +5,7 @@ use Prim.Native.Nat.{ℕ}
 use lib.Dec.{eqb, leb, ltb}
 use Rattle.refusal.specs.Checks.{all}
 use Rattle.roster.specs.Masks.{signer}
-use Rattle.replica.specs.Ends.{staler}
+use Rattle.log_chain.specs.Ends.{staler}
 use Rattle.forensics_charges.specs.declared.Tenure.{Tenure}
 use Rattle.forensics_charges.specs.declared.Receipt.{Receipt}
 

@@ -5,7 +5,7 @@ ghost use Prim.Native.Nat.{_<_};
 ghost use lib.Dec.{eqb, leb, ltb};
 ghost use Rattle.refusal.specs.Checks.{all};
 ghost use Rattle.roster.specs.Masks.{signer};
-ghost use Rattle.replica.specs.Ends as ends;
+ghost use Rattle.log_chain.specs.Ends as ends;
 ghost use Rattle.forensics_charges.specs.Rules as inner;
 use super::Receipt;
 use super::Tenure;

@@ -10,9 +10,10 @@ use lib.ListN.{length}
 use Rattle.refusal.proofs.Laws.{all-cons}
 use Rattle.log_chain.specs.Log.{lastTerm}
 use Rattle.submission.specs.Trailer.{recordCount}
-use Rattle.submission.specs.Reading.{recordSize, recordsOf, commitAt, view, laidOut}
+use Rattle.log_chain.specs.Records.{recordSize, recordsOf}
+use Rattle.submission.specs.Reading.{commitAt, view, laidOut}
 use Rattle.submission.specs.Validate.{within}
-use Rattle.submission.proofs.Fits.{length-records}
+use Rattle.log_chain.proofs.Records.{length-records}
 use Rattle.submission_parts.specs.declared.Commit.{Commit}
 use Rattle.submission_parts.specs.declared.CommitPart.the-variants.{Found, Absent}
 use Rattle.submission_parts.specs.Reader.{commitNumbersAt}

@@ -10,13 +10,16 @@ use lib.ListN.{length}
 use Rattle.log_chain.specs.Log.{Record, version1}
 use Rattle.roster.specs.Roster.{replicas, signatureSize}
 use Rattle.submission.specs.Trailer.{recordCount, leaderCount}
-use Rattle.submission.specs.View.{Run, runs, leads, leadsOf}
-use Rattle.submission.specs.Reading.{recordsOf, certificateAt, certificateEnd, certificates, leadersFrom, view, stampsFrom}
+use Rattle.log_chain.specs.Runs.{Run, runs}
+use Rattle.submission.specs.View.{leads, leadsOf}
+use Rattle.log_chain.specs.Records.{recordsOf}
+use Rattle.submission.specs.Reading.{certificateAt, certificateEnd, certificates, leadersFrom, view, stampsFrom}
 use Rattle.submission.specs.Validate.{formOf, viewOf, oneEach}
 use Rattle.submission.proofs.Accepted.{Sound, length-certificates}
-use Rattle.submission.proofs.Fits.{length-records}
+use Rattle.log_chain.proofs.Records.{length-records}
 use Rattle.submission.proofs.Places.{last-index-at}
-use Rattle.submission.proofs.Linked.{Linked, linked-runs, leadAt, leadsFrom, leads-first, TermsLeft, turn}
+use Rattle.log_chain.proofs.Linked.{Linked, linked-runs}
+use Rattle.submission.proofs.Linked.{leadAt, leadsFrom, leads-first, TermsLeft, turn}
 use Rattle.forensics_find.proofs.Views.{tenure, tenures}
 use Rattle.forensics_find.specs.Tenures.{endAt, tenureAt, tenuresAt, tenuresOf}
 

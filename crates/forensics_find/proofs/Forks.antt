@@ -1,6 +1,6 @@
 -- The fork index from the first difference of the whole logs: it is that difference where both have committed it, and 0 otherwise.
 -- Assumes nothing.
-use mathlib.Core.Path.{_≡_, refl}
+use mathlib.Core.Path.{_≡_}
 use mathlib.Core.Bool.{cond}
 use mathlib.Core.List.{List}
 use mathlib.Core.Option.{Option, some, none}
@@ -9,7 +9,8 @@ use native.Mathlib.Omega.{arith}
 use lib.ListN.{take}
 use Rattle.log_chain.specs.Log.{Record}
 use Rattle.submission.specs.View.{Commit, View, committedBy, committed}
-use Rattle.forensics.specs.Findings.{differAt, fork}
+use Rattle.log_chain.specs.Difference.{differAt}
+use Rattle.forensics.specs.Findings.{fork}
 use Rattle.forensics_charges.specs.declared.Receipt.{Receipt}
 use Rattle.forensics_charges.specs.Charges.{receiptsBy, receipts, forkOf}
 use Rattle.log_difference.proofs.Differ.{inBoth, in-both, above-first, above-second, none-in, differ-nil, differ-take}

@@ -9,7 +9,8 @@ use native.Mathlib.Omega.{arith}
 use lib.ListN.{length}
 use Rattle.replica.specs.Charges.{Charge}
 use Rattle.submission.specs.Trailer.{trailerAt, recordCount, leaderCount}
-use Rattle.submission.specs.Reading.{recordSize, certificateEnd, certificatesEnd, leadersFrom, laidOut}
+use Rattle.log_chain.specs.Records.{recordSize}
+use Rattle.submission.specs.Reading.{certificateEnd, certificatesEnd, leadersFrom, laidOut}
 use Rattle.forensics.specs.Findings.{lowest}
 use Rattle.submission.proofs.Certificates.{certificates-from, end-first}
 use Rattle.submission_parts.proofs.Readings.{certificate-fields}

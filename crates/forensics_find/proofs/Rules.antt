@@ -19,12 +19,15 @@ use Rattle.roster.specs.Masks.{signer}
 use Rattle.roster.proofs.Masks.{signer-none}
 use Rattle.log_chain.specs.Log.{Form, Record, lastTerm}
 use Rattle.log_chain.specs.Claim.{Claim}
-use Rattle.replica.specs.Charges.{Charge, charge, clash, agree, twoVotes, twoStamps, staleVote}
-use Rattle.submission.specs.View.{Run, runs, Certificate, Commit, View, Lead, leadsOf, leads, slots}
+use Rattle.replica.specs.Charges.{Charge, charge, clash, twoVotes, twoStamps, staleVote}
+use Rattle.log_chain.specs.Difference.{agree}
+use Rattle.log_chain.specs.Runs.{Run, runs}
+use Rattle.submission.specs.View.{Certificate, Commit, View, Lead, leadsOf, leads, slots}
 use Rattle.submission.specs.Validate.{leading, within}
 use Rattle.submission.proofs.Accepted.{Sound}
-use Rattle.submission.proofs.Runs.{run-begins}
-use Rattle.forensics.specs.Findings.{says, charges, lowest, differAt}
+use Rattle.log_chain.proofs.Runs.{run-begins}
+use Rattle.forensics.specs.Findings.{says, charges, lowest}
+use Rattle.log_chain.specs.Difference.{differAt}
 use Rattle.forensics_charges.specs.declared.Receipt.{Receipt}
 use Rattle.forensics_charges.specs.declared.Tenure.{Tenure}
 use Rattle.forensics_charges.specs.Rules.{twoCandidates, twoLogs, forgotten}

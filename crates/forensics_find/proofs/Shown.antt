@@ -12,10 +12,12 @@ use Rattle.roster.proofs.Accepted.{signature-bounds}
 use Rattle.log_chain.specs.Log.{version1}
 use Rattle.submission.specs.Trailer.{recordCount}
 use Rattle.submission.specs.View.{slots}
-use Rattle.submission.specs.Reading.{recordsOf, view, laidOut}
+use Rattle.log_chain.specs.Records.{recordsOf}
+use Rattle.submission.specs.Reading.{view, laidOut}
 use Rattle.submission.specs.Validate.{within, formOf, viewOf, validate}
 use Rattle.submission.proofs.Accepted.{Sound, validated}
-use Rattle.forensics.specs.Findings.{differAt, fork, charges, lowest, findings}
+use Rattle.log_chain.specs.Difference.{differAt}
+use Rattle.forensics.specs.Findings.{fork, charges, lowest, findings}
 use Rattle.submission_parts.specs.Parts.{Bounds}
 use Rattle.submission_parts.proofs.Inside.{bounds}
 use Rattle.forensics_charges.specs.declared.Receipt.{Receipt}

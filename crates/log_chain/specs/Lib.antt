@@ -2,3 +2,7 @@ pub mod Log
 pub mod Claim
 pub mod Apart
 pub mod Widths
+pub mod Records
+pub mod Runs
+pub mod Ends
+pub mod Difference

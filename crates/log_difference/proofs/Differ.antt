@@ -13,8 +13,8 @@ use lib.ListN.{take}
 use Rattle.refusal.specs.Checks.{all}
 use Rattle.refusal.proofs.Laws.{look, all-cons}
 use Rattle.log_chain.specs.Log.{Record}
-use Rattle.replica.specs.Charges.{agree, sameRecord}
-use Rattle.forensics.specs.Findings.{differAt}
+use Rattle.log_chain.specs.Difference.{agree, sameRecord}
+use Rattle.log_chain.specs.Difference.{differAt}
 
 -- ---- a difference within two lengths
 

@@ -16,9 +16,9 @@ use Rattle.words.proofs.Bytes.{Bytes}
 use Rattle.words.proofs.Same.{same-true, true-same, same-test}
 use Rattle.refusal.proofs.Laws.{cond-true}
 use Rattle.log_chain.specs.Log.{Record}
-use Rattle.replica.specs.Charges.{sameRecord}
-use Rattle.submission.specs.Reading.{recordSize, recordsOf}
-use Rattle.forensics.specs.Findings.{differAt}
+use Rattle.log_chain.specs.Difference.{sameRecord}
+use Rattle.log_chain.specs.Records.{recordSize, recordsOf}
+use Rattle.log_chain.specs.Difference.{differAt}
 use Rattle.log_terms.specs.Later.{recordsAfter}
 use Rattle.log_terms.proofs.Records.{recordAt, record-bytes, after-first, after-last, after-all}
 use Rattle.log_difference.proofs.Differ.{differ-nil, differ-next, differ-here}

@@ -3,9 +3,9 @@ ghost use mathlib.Core.Path.{_≡_};
 ghost use Prim.Native.Nat.{_+_, _*_, _≤_};
 ghost use lib.ListN.{length, take, drop};
 ghost use Rattle.words.specs.BigEndian.{same};
-ghost use Rattle.submission.specs.Reading.{recordSize, recordsOf};
-ghost use Rattle.forensics.specs.Findings.{differAt};
-use submission::RECORD_SIZE;
+ghost use Rattle.log_chain.specs.Records.{recordSize, recordsOf};
+ghost use Rattle.log_chain.specs.Difference.{differAt};
+use log_chain::RECORD_SIZE;
 
 // Whether the bytes of two records at a place are the same.
 fn same_record(a: &[u8], b: &[u8], at: usize) -> bool

@@ -9,8 +9,8 @@ use Rattle.words.proofs.Bytes.{Bytes}
 use Rattle.sha256.specs.Sha256.{sha256}
 use Rattle.log_chain.specs.Log.{version1, chainString, pointer}
 use Rattle.log_chain.proofs.Pointers.{pointer-snoc}
-use Rattle.submission.specs.Reading.{recordSize, recordsOf}
-use Rattle.submission.proofs.Fits.{length-records}
+use Rattle.log_chain.specs.Records.{recordSize, recordsOf}
+use Rattle.log_chain.proofs.Records.{length-records}
 use Rattle.log_terms.proofs.Records.{recordAt, records-snoc, record-bytes}
 
 pub pointer-next : (i : ℕ) (s : List ℕ) → Bytes s → recordSize 4 * suc i ≤ length s

@@ -12,8 +12,8 @@ use Rattle.words.specs.BigEndian.{number, be}
 use Rattle.words.proofs.Bytes.{Bytes}
 use Rattle.words.proofs.Laws.{be-number, bytes-take, bytes-drop}
 use Rattle.log_chain.specs.Log.{Record, lastTerm}
-use Rattle.replica.proofs.Order.{last-snoc}
-use Rattle.submission.specs.Reading.{recordSize, recordsOf}
+use Rattle.log_chain.proofs.Order.{last-snoc}
+use Rattle.log_chain.specs.Records.{recordSize, recordsOf}
 use Rattle.log_terms.specs.Later.{recordsAfter}
 
 -- ---- the record at a place

@@ -5,7 +5,7 @@ use mathlib.Core.Bool.{Bool, true, false}
 use mathlib.Core.List.{List}
 use Prim.Native.Nat.{ℕ, suc, _≤_, _<_}
 use borrow.Author.Tests.{le-leb, lt-leb}
-use Rattle.replica.specs.Ends.{rising}
+use Rattle.log_chain.specs.Ends.{rising}
 use Rattle.log_terms.specs.Later.{recordsAfter}
 use Rattle.log_terms.proofs.Records.{recordAt, after-first, after-last}
 

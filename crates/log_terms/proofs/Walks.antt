@@ -13,11 +13,11 @@ use lib.ListN.{length}
 use Rattle.words.specs.BigEndian.{numberAt}
 use Rattle.refusal.proofs.Laws.{look}
 use Rattle.log_chain.specs.Log.{lastTerm}
-use Rattle.submission.specs.View.{run, runsFrom, runsAfter, runs}
-use Rattle.submission.specs.Reading.{recordSize, recordsOf}
+use Rattle.log_chain.specs.Runs.{run, runsFrom, runsAfter, runs}
+use Rattle.log_chain.specs.Records.{recordSize, recordsOf}
 use Rattle.log_terms.specs.Later.{recordsAfter, runsLeft}
 use Rattle.log_terms.proofs.Records.{recordAt, records-snoc, after-first, after-last, after-all}
-use Rattle.submission.proofs.Runs.{run-goes, run-ends, run-last}
+use Rattle.log_chain.proofs.Runs.{run-goes, run-ends, run-last}
 
 -- where a record's term stands
 pub record-term : (s : List ℕ) (i : ℕ) → numberAt 4 s (36 * i) ≡ recordAt 4 s i .term

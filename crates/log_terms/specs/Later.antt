@@ -4,8 +4,8 @@ use mathlib.Core.List.{List}
 use Prim.Native.Nat.{ℕ, _-_, _*_}
 use lib.ListN.{drop}
 use Rattle.log_chain.specs.Log.{Record}
-use Rattle.submission.specs.View.{Run, runsAfter}
-use Rattle.submission.specs.Reading.{recordSize, recordsOf}
+use Rattle.log_chain.specs.Runs.{Run, runsAfter}
+use Rattle.log_chain.specs.Records.{recordSize, recordsOf}
 
 abbrev pub recordsAfter : ℕ → ℕ → ℕ → List ℕ → List Record
 recordsAfter w count i s = recordsOf w (count - i) (drop (recordSize w * i) s)

@@ -5,12 +5,12 @@ ghost use mathlib.Core.List.{_∷_};
 ghost use Prim.Native.Nat.{_*_, _≤_, _<_};
 ghost use lib.ListN.{length};
 ghost use Rattle.log_chain.specs.Log.{lastTerm};
-ghost use Rattle.replica.specs.Ends.{rising};
-ghost use Rattle.submission.specs.View.{run, runs};
-ghost use Rattle.submission.specs.Reading.{recordSize, recordsOf};
+ghost use Rattle.log_chain.specs.Ends.{rising};
+ghost use Rattle.log_chain.specs.Runs.{run, runs};
+ghost use Rattle.log_chain.specs.Records.{recordSize, recordsOf};
 ghost use Rattle.log_terms.specs.Later.{runsLeft};
+use log_chain::RECORD_SIZE;
 use sha256::State;
-use submission::RECORD_SIZE;
 
 pub mod pointers;
 

@@ -2,17 +2,16 @@
 // version 1: terms of 4 bytes.
 ghost use mathlib.Core.Path.{_≡_};
 ghost use mathlib.Core.List.{[], _∷_};
-ghost use Prim.Native.Nat.{_+_, _*_, _≤_, _<_};
+ghost use Prim.Native.Nat.{_+_, _*_, _^_, _≤_, _<_};
 ghost use lib.ListN.{length};
 ghost use Rattle.sha256.specs.Sha256.{bytesOf};
 ghost use Rattle.log_chain.specs.Log.{version1, pointer};
-ghost use Rattle.submission.specs.View.{run};
-ghost use Rattle.submission.specs.Reading.{recordSize, recordsOf};
-ghost use Rattle.submission.specs.Validate.{recordMost};
+ghost use Rattle.log_chain.specs.Runs.{run};
+ghost use Rattle.log_chain.specs.Records.{recordSize, recordsOf};
 ghost use Rattle.log_terms.specs.Later.{runsLeft};
 use super::Walked;
+use log_chain::RECORD_SIZE;
 use sha256::State;
-use submission::RECORD_SIZE;
 
 // Pointer 0: 32 zero bytes.
 pub fn pointer_zero() -> State
@@ -32,7 +31,7 @@ pub fn pointer_zero() -> State
 
 // The pointer of record i + 1, from record i's.
 fn step(s: &[u8], i: usize, before: State) -> State
-    requires { ⌜ (i < recordMost) × (recordSize 4 * (i + 1) ≤ length (now s))
+    requires { ⌜ (i + 1 < 2 ^ 32) × (recordSize 4 * (i + 1) ≤ length (now s))
         × (bytesOf before ≡ pointer (version1 []) (recordsOf 4 i (now s))) ⌝ }
     ensures { λ r. ⌜ bytesOf r ≡ pointer (version1 []) (recordsOf 4 (i + 1) (now (s .entry))) ⌝ }
 {
@@ -43,7 +42,7 @@ fn step(s: &[u8], i: usize, before: State) -> State
 
 // The pointer of record `end`, from record i's: one hash a record.
 pub fn pointer_after(s: &[u8], i: usize, end: usize, before: State) -> State
-    requires { ⌜ (i ≤ end) × (end ≤ recordMost) × (recordSize 4 * end ≤ length (now s))
+    requires { ⌜ (i ≤ end) × (end < 2 ^ 32) × (recordSize 4 * end ≤ length (now s))
         × (bytesOf before ≡ pointer (version1 []) (recordsOf 4 i (now s))) ⌝ }
     ensures { λ r. ⌜ bytesOf r ≡ pointer (version1 []) (recordsOf 4 end (now (s .entry))) ⌝ }
 {
@@ -58,7 +57,7 @@ pub fn pointer_after(s: &[u8], i: usize, end: usize, before: State) -> State
 
 // The end of the term that follows record i, with its pointer.
 pub fn next_run(s: &[u8], records: usize, i: usize, before: State) -> Walked
-    requires { ⌜ (i < records) × (records ≤ recordMost) × (recordSize 4 * records ≤ length (now s))
+    requires { ⌜ (i < records) × (records < 2 ^ 32) × (recordSize 4 * records ≤ length (now s))
         × (bytesOf before ≡ pointer (version1 []) (recordsOf 4 i (now s))) ⌝ }
     ensures ends { λ r. ⌜ (i < r .end) × (r .end ≤ records) ⌝ }
     ensures pointed { λ r. ⌜ bytesOf (r .pointer)

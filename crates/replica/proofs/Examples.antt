@@ -11,9 +11,10 @@ use Rattle.words.specs.BigEndian.{same}
 use Rattle.refusal.specs.Checks.{all}
 use Rattle.log_chain.specs.Log.{version1, Record, termFrom, lastTerm}
 use Rattle.log_chain.specs.Claim.{Ballot, stamped, received, voted}
-use Rattle.replica.specs.Ends.{rising, staler}
+use Rattle.log_chain.specs.Ends.{rising, staler}
 use Rattle.replica.specs.Replica.{State, Act, raise, vote, run, add, stamp, receipt, decline, restart, fitsTerm, fitsIndex, fitsRecords, oneCandidate, noStamp, noStaler, rules, allowed, first, after, signs, keeps, signed, held}
-use Rattle.replica.specs.Charges.{twoVotes, twoStamps, staleVote, agree, sameRecord}
+use Rattle.replica.specs.Charges.{twoVotes, twoStamps, staleVote}
+use Rattle.log_chain.specs.Difference.{agree, sameRecord}
 
 -- a record of a term, with one byte of its payload digest
 of : ℕ → ℕ → Record

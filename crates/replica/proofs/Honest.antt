@@ -16,11 +16,12 @@ use lib.Seq.{length-take-le}
 use Rattle.words.proofs.Same.{true-same}
 use Rattle.refusal.proofs.Laws.{look, cond-true, not-true, all-cons}
 use Rattle.log_chain.specs.Log.{Form, Record, termFrom, lastTerm}
-use Rattle.replica.specs.Ends.{rising, staler}
+use Rattle.log_chain.specs.Ends.{rising, staler}
 use Rattle.log_chain.specs.Claim.{Ballot, Claim, stamped, received, voted}
 use Rattle.replica.specs.Replica.{State, first, keeps, signed, Act, raise, vote, run, add, stamp, receipt, decline, restart, oneCandidate, noStamp, noStaler, rules, allowed, after, signs}
-use Rattle.replica.proofs.Order.{Fresh, fresh, not-staler, fresh-trans, last-snoc, take-last-le, rising-snoc}
-use Rattle.replica.specs.Charges.{NeverCharged, clash, charge, twoVotes, twoStamps, staleVote, agree, sameRecord}
+use Rattle.log_chain.proofs.Order.{Fresh, fresh, not-staler, fresh-trans, last-snoc, take-last-le, rising-snoc}
+use Rattle.replica.specs.Charges.{NeverCharged, clash, charge, twoVotes, twoStamps, staleVote}
+use Rattle.log_chain.specs.Difference.{agree, sameRecord}
 
 -- ---- what a state keeps
 

@@ -1,5 +1,4 @@
 mod Examples
-pub mod Order
 pub mod Honest
 pub mod Signed
 mod Case

@@ -6,9 +6,9 @@ use mathlib.Core.List.{List, [], _∷_, List·Memᴰ}
 use Prim.Native.Nat.{ℕ}
 use lib.Dec.{ltb, eqb}
 use lib.ListN.{length}
-use Rattle.words.specs.BigEndian.{same}
 use Rattle.log_chain.specs.Log.{Form, Record}
-use Rattle.replica.specs.Ends.{staler}
+use Rattle.log_chain.specs.Ends.{staler}
+use Rattle.log_chain.specs.Difference.{agree}
 use Rattle.replica.specs.Replica.{Act, first, keeps, signed}
 use Rattle.log_chain.specs.Claim.{Ballot, Claim, stamped, received, voted}
 
@@ -19,15 +19,6 @@ pub record Charge : Type 0 where
 unfoldable pub charge : Bool → ℕ → ℕ → List Charge
 charge true rule term = record { rule = rule; term = term } ∷ []
 charge false rule term = []
-
-unfoldable pub sameRecord : Record → Record → Bool
-sameRecord r s = cond (eqb (r .term) (s .term)) (same (r .digest) (s .digest)) false
-
--- the two logs do not differ in records 1 to the lower of their lengths
-unfoldable pub agree : List Record → List Record → Bool
-agree [] m = true
-agree (r ∷ l) [] = true
-agree (r ∷ l) (s ∷ m) = cond (sameRecord r s) (agree l m) false
 
 -- votes of one term for different candidates
 unfoldable pub twoVotes : Ballot → Ballot → Bool

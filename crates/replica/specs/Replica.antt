@@ -8,7 +8,7 @@ use lib.Dec.{leb, ltb, eqb}
 use lib.ListN.{length, take}
 use Rattle.refusal.specs.Checks.{all}
 use Rattle.log_chain.specs.Log.{Form, Record, lastTerm}
-use Rattle.replica.specs.Ends.{rising, staler}
+use Rattle.log_chain.specs.Ends.{rising, staler}
 use Rattle.log_chain.specs.Claim.{Ballot, Claim, stamped, received, voted}
 
 pub record State : Type 0 where

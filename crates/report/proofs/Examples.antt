@@ -11,12 +11,15 @@ use Rattle.lm_digits.specs.Parameters.{row}
 use Rattle.lm_format.specs.Format.{height, signatureLength, pathAt, oneTimeBytes}
 use Rattle.roster.specs.Roster.{cluster, replicas, keyOf, treeType, oneTimeType, levels, signatureSize, everyReplica, sized, typed, single, rosterNumber}
 use Rattle.log_chain.specs.Log.{version1}
-use Rattle.replica.specs.Ends.{rising}
+use Rattle.log_chain.specs.Ends.{rising}
 use Rattle.submission.specs.Trailer.{name, word, recordCount, leaderCount, distance, version}
-use Rattle.submission.specs.View.{runs, runsAfter, leads, leadsOf, committed, committedBy, slots, receiptsOf}
-use Rattle.submission.specs.Reading.{view, laidOut, recordSize, recordsOf, certificates, certificatesEnd, stampsAt, leadersFrom, stampsFrom, commitFrom, commitOf}
+use Rattle.log_chain.specs.Runs.{runs, runsAfter}
+use Rattle.submission.specs.View.{leads, leadsOf, committed, committedBy, slots, receiptsOf}
+use Rattle.submission.specs.Reading.{view, laidOut, certificates, certificatesEnd, stampsAt, leadersFrom, stampsFrom, commitFrom, commitOf}
+use Rattle.log_chain.specs.Records.{recordSize, recordsOf}
 use Rattle.submission.specs.Validate.{sized as sizedSubmission, versioned, named, counted, commitSigners, masks, ordered, oneEach, within, formOf, viewOf, slotsOf, validate}
-use Rattle.forensics.specs.Findings.{differAt, fork, says, charges, lowest, rowsFrom, bit, maskOf, findings}
+use Rattle.log_chain.specs.Difference.{differAt}
+use Rattle.forensics.specs.Findings.{fork, says, charges, lowest, rowsFrom, bit, maskOf, findings}
 use Rattle.report.specs.Report.{refused, answer, rowBytes, reportBytes, short, auditNumber, reportAfter}
 use Rattle.report.specs.Figures.{sampleKey, sampleRoster, sampleSubmission}
 

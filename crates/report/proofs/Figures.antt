@@ -10,11 +10,13 @@ use Rattle.lms.specs.Figures.{Figure, figure, AllHold, signatureFigures}
 use Rattle.lms.proofs.Figures.{signature-figures}
 use Rattle.roster.specs.Roster.{cluster, replicas, quorum, keyOf, treeType, oneTimeType, levels, signatureSize, everyReplica, sized, typed, single, rosterNumber}
 use Rattle.log_chain.specs.Log.{version1}
-use Rattle.replica.specs.Ends.{rising, staler}
+use Rattle.log_chain.specs.Ends.{rising, staler}
 use Rattle.replica.specs.Charges.{charge, clash, staleVote}
 use Rattle.submission.specs.Trailer.{name, word, recordCount, leaderCount, distance, version}
-use Rattle.submission.specs.View.{runs, runsAfter, leads, leadsOf, slots, receiptsOf}
-use Rattle.submission.specs.Reading.{view, laidOut, recordSize, recordsOf, certificates, certificatesEnd, stampsAt, leadersFrom, stampsFrom, commitFrom, commitOf}
+use Rattle.log_chain.specs.Runs.{runs, runsAfter}
+use Rattle.submission.specs.View.{leads, leadsOf, slots, receiptsOf}
+use Rattle.submission.specs.Reading.{view, laidOut, certificates, certificatesEnd, stampsAt, leadersFrom, stampsFrom, commitFrom, commitOf}
+use Rattle.log_chain.specs.Records.{recordSize, recordsOf}
 use Rattle.submission.specs.Validate.{sized as sizedSubmission, versioned, named, counted, commitSigners, masks, ordered, oneEach, within, formOf, viewOf, slotsOf, validate}
 use Rattle.forensics.specs.Findings.{lowest, lower}
 use Rattle.report.specs.Figures.{sampleKey, sampleRoster, sampleSubmission, ruleOf, receiptThenVote, auditFigures, markedFigures}

@@ -23,11 +23,13 @@ use Rattle.roster.specs.Masks.{signer}
 use Rattle.log_chain.specs.Log.{version1, Record, chainString, chainFrom, chainStrings, termFrom, lastTerm}
 use Rattle.log_chain.specs.Claim.{Ballot}
 use Rattle.log_chain.specs.Apart.{Apart}
-use Rattle.replica.specs.Ends.{rising, staler}
+use Rattle.log_chain.specs.Ends.{rising, staler}
 use Rattle.replica.specs.Replica.{Act, raise, vote, run, add, stamp, receipt, decline, restart, first, fitsTerm, fitsIndex, fitsRecords, oneCandidate, noStamp, noStaler, rules, allowed, after, keeps, held}
 use Rattle.submission.specs.Trailer.{name, word, recordCount, leaderCount, distance, version}
-use Rattle.submission.specs.View.{runs, runsAfter, leads, leadsOf, slots, receiptsOf}
-use Rattle.submission.specs.Reading.{view, laidOut, recordSize, recordsOf, certificates, certificatesEnd, stampsAt, leadersFrom, stampsFrom, commitFrom, commitOf}
+use Rattle.log_chain.specs.Runs.{runs, runsAfter}
+use Rattle.submission.specs.View.{leads, leadsOf, slots, receiptsOf}
+use Rattle.submission.specs.Reading.{view, laidOut, certificates, certificatesEnd, stampsAt, leadersFrom, stampsFrom, commitFrom, commitOf}
+use Rattle.log_chain.specs.Records.{recordSize, recordsOf}
 use Rattle.submission.specs.Validate.{sized as sizedSubmission, versioned, named, counted, commitSigners, masks, ordered, oneEach, within, formOf, viewOf, slotsOf, validate}
 use Rattle.report.specs.Report.{short, answer, auditNumber, reportAfter, namedIn}
 use Rattle.report.specs.Claims.{OwnSignatures, strings, Fairness}

@@ -15,10 +15,11 @@ use Rattle.log_chain.specs.Log.{Record, chainStrings, chainFrom}
 use Rattle.log_chain.specs.Claim.{Ballot, voted, say}
 use Rattle.log_chain.specs.Apart.{Apart}
 use Rattle.replica.specs.Replica.{raise, vote, first, after, signs, keeps, signed, held}
-use Rattle.replica.specs.Charges.{sameRecord}
+use Rattle.log_chain.specs.Difference.{sameRecord}
 use Rattle.submission.specs.View.{Slot}
 use Rattle.submission.specs.Validate.{formOf, viewOf, slotsOf}
-use Rattle.forensics.specs.Findings.{differAt, fork}
+use Rattle.log_chain.specs.Difference.{differAt}
+use Rattle.forensics.specs.Findings.{fork}
 use Rattle.report.specs.Report.{namedIn}
 use Rattle.report.specs.Claims.{Differ, Naming, OwnSignatures, strings, Fairness}
 

@@ -15,10 +15,12 @@ use Rattle.roster.specs.Roster.{quorum, keyOf}
 use Rattle.roster.specs.Masks.{signer, replicasFrom, replicasOf}
 use Rattle.log_chain.specs.Log.{Form, version1, Record, pointer, pointerFrom, termFrom, lastTerm}
 use Rattle.log_chain.specs.Claim.{Ballot, stamped, received, voted}
-use Rattle.replica.specs.Ends.{rising}
+use Rattle.log_chain.specs.Ends.{rising}
 use Rattle.submission.specs.Trailer.{name, word, recordCount, leaderCount, distance, version}
-use Rattle.submission.specs.View.{run, runsFrom, runs, runsAfter, Certificate, Commit, View, leadsOf, leads, slot, certified, votesOf, stampOf, receiptsOf, slots}
-use Rattle.submission.specs.Reading.{view, laidOut, recordSize, ballotSize, recordsOf, ballotAt, signersAt, certificateAt, certificateEnd, certificates, certificatesEnd, stampsAt, commitAt, commitEnd, leadersFrom, stampsFrom, commitFrom, commitOf}
+use Rattle.log_chain.specs.Runs.{run, runsFrom, runs, runsAfter}
+use Rattle.submission.specs.View.{Certificate, Commit, View, leadsOf, leads, slot, certified, votesOf, stampOf, receiptsOf, slots}
+use Rattle.submission.specs.Reading.{view, laidOut, ballotSize, ballotAt, signersAt, certificateAt, certificateEnd, certificates, certificatesEnd, stampsAt, commitAt, commitEnd, leadersFrom, stampsFrom, commitFrom, commitOf}
+use Rattle.log_chain.specs.Records.{recordSize, recordsOf}
 use Rattle.submission.specs.Validate.{sized, versioned, named, counted, quorate, commitSigners, masks, ordered, oneEach, leading, within, genuine}
 
 form : Form
@@ -114,11 +116,6 @@ orders : (ordered (logged (of 1 ∷ of 1 ∷ of 3 ∷ []) []) ≡ true) × (orde
     × (ordered (logged [] []) ≡ true)
 unfolding ordered logged of rising
 orders = (refl, refl, refl, refl)
-
--- the distinct terms, with the log before and up to the last record of each
-terms : (runs [] ≡ []) × (runs (of 1 ∷ of 1 ∷ of 3 ∷ []) ≡ run [] (of 1 ∷ of 1 ∷ []) ∷ run (of 1 ∷ of 1 ∷ []) (of 1 ∷ of 1 ∷ of 3 ∷ []) ∷ [])
-unfolding runs runsAfter runsFrom run of lastTerm termFrom
-terms = (refl, refl)
 
 certificate : Ballot → ℕ → Certificate
 certificate b mask = record { ballot = b; signers = mask; signatures = [] }

@@ -23,22 +23,20 @@ use Rattle.roster.specs.Roster.{replicas, signatureSize}
 use Rattle.roster.specs.Masks.{replicasOf}
 use Rattle.log_chain.specs.Log.{Form, Record, pointer, chainStrings, lastTerm}
 use Rattle.log_chain.specs.Claim.{Claim, stamped, received, voted}
+use Rattle.log_chain.proofs.Records.{length-records}
 use Rattle.log_chain.proofs.Fits.{LogFits, empty, more, PlaceFits, BallotFits, ClaimFits}
 use Rattle.log_chain.proofs.Prefix.{strings-take, fits-take, last-fits}
 use Rattle.log_chain.proofs.Said.{stringsOf, pointer-length}
 use Rattle.submission.specs.Trailer.{trailerAt, recordCount, distance}
-use Rattle.submission.specs.View.{Run, runs, Certificate, Commit, Lead, leadsOf, leads, Slot, slot, certified, votesOf, stampOf, receiptsOf, slots}
-use Rattle.submission.specs.Reading.{recordSize, recordsOf, ballotAt, certificateAt, certificateEnd, certificates, leadersFrom, view, laidOut}
+use Rattle.log_chain.specs.Runs.{Run, runs}
+use Rattle.submission.specs.View.{Certificate, Commit, Lead, leadsOf, leads, Slot, slot, certified, votesOf, stampOf, receiptsOf, slots}
+use Rattle.log_chain.specs.Records.{recordSize, recordsOf}
+use Rattle.submission.specs.Reading.{ballotAt, certificateAt, certificateEnd, certificates, leadersFrom, view, laidOut}
 use Rattle.submission.specs.Validate.{recordMost, counted, leading, formOf, viewOf, slotsOf}
 use Rattle.submission.proofs.Accepted.{Accepted}
-use Rattle.submission.proofs.Runs.{run-begins}
+use Rattle.log_chain.proofs.Runs.{run-begins}
 
 -- ---- the records
-
-pub length-records : (w count : ℕ) (bytes : List ℕ) → length (recordsOf w count bytes) ≡ count
-unfolding recordsOf
-length-records w zero bytes = refl
-length-records w (suc count) bytes = ap suc (length-records w count (drop (recordSize w) bytes))
 
 module _ (form : Form) where
   records-fit : (count : ℕ) (bytes : List ℕ) → Bytes bytes → recordSize (form .termBytes) * count ≤ length bytes → LogFits form (recordsOf (form .termBytes) count bytes)

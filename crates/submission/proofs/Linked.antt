@@ -1,15 +1,14 @@
 -- The terms of a log follow one another: each begins where the one before ends, and the last ends with the log. So the last record of a
 -- term stands in the next leader certificate, which check 13 compared with the log, and that of the last term is the log's.
 -- Assumes nothing.
-use mathlib.Core.Path.{_≡_, refl, sym, ap, _∙_}
+use mathlib.Core.Path.{_≡_, refl, ap, _∙_}
 use mathlib.Core.Bool.{true}
-use mathlib.Core.List.{List, [], _∷_, _++_, append-nil}
+use mathlib.Core.List.{List, [], _∷_, _++_}
 use mathlib.Core.Logic.{⊎-elim}
 use Prim.Native.Nat.{ℕ, suc, _+_, _-_, _≤_, _<_}
 use native.Mathlib.Omega.{arith}
 use borrow.Author.Tests.{eqb-true, leb-true}
 use lib.ListN.{length, take, drop}
-use lib.Seq.{append-snoc}
 use Rattle.words.specs.BigEndian.{numberAt}
 use Rattle.words.proofs.Same.{same-true}
 use Rattle.refusal.specs.Checks.{every}
@@ -17,30 +16,11 @@ use Rattle.refusal.proofs.Laws.{all-cons, cond-true}
 use Rattle.roster.specs.Roster.{cluster, replicas}
 use Rattle.log_chain.specs.Log.{version1, Record, pointer, lastTerm}
 use Rattle.log_chain.proofs.Pointers.{pointer-name}
-use Rattle.submission.specs.View.{Run, run, runsFrom, runsAfter, runs, Lead, leadsOf}
+use Rattle.log_chain.specs.Runs.{Run}
+use Rattle.submission.specs.View.{Lead, leadsOf}
 use Rattle.submission.specs.Reading.{ballotAt, certificateAt, certificateEnd, certificates, stampsAt}
 use Rattle.submission.specs.Validate.{leading, formOf}
-use Rattle.submission.proofs.Runs.{next, alone}
-
--- ---- from a beginning of the log to its end
-
-unfoldable pub Linked : List Record → List Record → List Run → Type 0
-Linked log before [] = before ≡ log
-Linked log before (r ∷ rs) = (r .before ≡ before) × Linked log (r .upto) rs
-
-linked-from : (before upto rest : List Record) → Linked (upto ++ rest) before (runsFrom before upto rest)
-unfolding Linked run
-linked-from before upto [] = rw (alone before upto) (refl, sym (append-nil upto))
-linked-from before upto (s ∷ rest) =
-    ⊎-elim
-    (λ e. rw (e .1) (rw append-snoc at (linked-from before (upto ++ (s ∷ [])) rest)))
-    (λ e. rw e (refl, rw append-snoc at (linked-from upto (upto ++ (s ∷ [])) rest)))
-    (next before upto s rest)
-
-pub linked-runs : (log : List Record) → Linked log [] (runs log)
-unfolding Linked runs runsAfter
-linked-runs [] = refl
-linked-runs (s ∷ log) = linked-from [] (s ∷ []) log
+use Rattle.log_chain.proofs.Linked.{Linked}
 
 -- ---- what check 13 says of a certificate
 

@@ -18,9 +18,10 @@ use Rattle.roster.specs.Masks.{signer}
 use Rattle.roster.proofs.Masks.{listed}
 use Rattle.log_chain.specs.Log.{Form, Record, lastTerm}
 use Rattle.log_chain.specs.Claim.{Ballot, Claim, stamped, received, voted}
-use Rattle.replica.specs.Ends.{rising}
-use Rattle.replica.proofs.Order.{take-last-le}
-use Rattle.submission.specs.View.{Run, runs, Certificate, Commit, View, Lead, leadsOf, leads, committedBy, committed, Slot, slot, certified, votesOf, stampOf, receiptsOf, slots}
+use Rattle.log_chain.specs.Ends.{rising}
+use Rattle.log_chain.proofs.Order.{take-last-le}
+use Rattle.log_chain.specs.Runs.{Run, runs}
+use Rattle.submission.specs.View.{Certificate, Commit, View, Lead, leadsOf, leads, committedBy, committed, Slot, slot, certified, votesOf, stampOf, receiptsOf, slots}
 use Rattle.submission.specs.Validate.{quorate, commitSigners, masks, ordered, oneEach, leading, within}
 use Rattle.submission.proofs.Accepted.{Sound}
 

@@ -7,24 +7,14 @@ use Prim.Native.Nat.{ℕ, zero, suc, _+_, _*_}
 use lib.Count.{ones}
 use lib.Dec.{eqb}
 use lib.ListN.{take, drop}
-use Rattle.words.specs.BigEndian.{number, numberAt}
+use Rattle.words.specs.BigEndian.{numberAt}
 use Rattle.refusal.specs.Checks.{all}
-use Rattle.log_chain.specs.Log.{Record}
+use Rattle.log_chain.specs.Records.{recordSize, recordsOf}
 use Rattle.log_chain.specs.Claim.{Ballot}
 use Rattle.submission.specs.Trailer.{trailerAt, recordCount, leaderCount, distance}
 use Rattle.submission.specs.View.{Certificate, Commit, View}
 
--- ---- part 1
-
--- a record: term and payload digest
-unfoldable pub recordSize : ℕ → ℕ
-recordSize w = w + 32
-
-unfoldable pub recordsOf : ℕ → ℕ → List ℕ → List Record
-recordsOf w zero bytes = []
-recordsOf w (suc count) bytes =
-    record { term = number (take w bytes); digest = take 32 (drop w bytes) }
-    ∷ recordsOf w count (drop (recordSize w) bytes)
+-- part 1 is the records (`recordsOf`)
 
 -- ---- part 2
 

@@ -14,9 +14,10 @@ use Rattle.roster.specs.Roster.{cluster, replicas, quorum, keyOf, signatureSize
 use Rattle.roster.specs.Masks.{signer}
 use Rattle.log_chain.specs.Log.{Form, version1, pointer, lastTerm}
 use Rattle.log_chain.specs.Claim.{say}
-use Rattle.replica.specs.Ends.{rising}
+use Rattle.log_chain.specs.Ends.{rising}
 use Rattle.submission.specs.Trailer.{trailerSize, name, recordCount, leaderCount, version}
-use Rattle.submission.specs.View.{Commit, View, Lead, leads, runs, Slot, slots}
+use Rattle.submission.specs.View.{Commit, View, Lead, leads, Slot, slots}
+use Rattle.log_chain.specs.Runs.{runs}
 use Rattle.submission.specs.Reading.{view, laidOut}
 
 -- the most bytes, records and terms

@@ -12,7 +12,7 @@ use Rattle.refusal.proofs.Laws.{first-fails, first-holds, all-one}
 use Rattle.submission.specs.Trailer.{recordCount}
 use Rattle.submission.specs.Reading.{commitAt, view}
 use Rattle.submission.specs.Validate.{within}
-use Rattle.submission.proofs.Fits.{length-records}
+use Rattle.log_chain.proofs.Records.{length-records}
 use Rattle.submission_parts.specs.declared.Commit.{Commit}
 use Rattle.submission_parts.specs.declared.CommitPart.the-variants.{Found, Absent}
 use Rattle.submission_parts.specs.Reader.{commitNumbersAt}

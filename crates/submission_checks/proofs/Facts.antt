@@ -11,10 +11,12 @@ use Rattle.refusal.specs.Checks.{every, check, refusal}
 use Rattle.refusal.proofs.Laws.{all-cons, passed}
 use Rattle.roster.specs.Roster.{cluster, replicas, signatureSize}
 use Rattle.log_chain.specs.Log.{version1}
-use Rattle.replica.specs.Ends.{rising}
+use Rattle.log_chain.specs.Ends.{rising}
 use Rattle.submission.specs.Trailer.{trailerSize, recordCount, leaderCount}
-use Rattle.submission.specs.View.{runs, leadsOf, leads, slots}
-use Rattle.submission.specs.Reading.{recordSize, recordsOf, certificates, stampsAt, leadersFrom, stampsFrom, view}
+use Rattle.log_chain.specs.Runs.{runs}
+use Rattle.submission.specs.View.{leadsOf, leads, slots}
+use Rattle.log_chain.specs.Records.{recordSize, recordsOf}
+use Rattle.submission.specs.Reading.{certificates, stampsAt, leadersFrom, stampsFrom, view}
 use Rattle.submission.specs.Validate.{sized, versioned, named, counted, ordered, oneEach, leading, within, genuine, formOf, viewOf, slotsOf, validate}
 use Rattle.submission.proofs.Accepted.{length-certificates, length-stamps}
 use Rattle.submission_checks.specs.Checks.{leaderChecks, logChecks, partChecks}

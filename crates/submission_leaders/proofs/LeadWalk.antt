@@ -9,7 +9,8 @@ use borrow.Author.Tests.{not-true, not-false}
 use lib.ListN.{length, drop, getD}
 use lib.Seq.{drop-cons}
 use Rattle.refusal.specs.Checks.{every}
-use Rattle.submission.specs.View.{Run, Lead, leadsOf}
+use Rattle.log_chain.specs.Runs.{Run}
+use Rattle.submission.specs.View.{Lead, leadsOf}
 use Rattle.submission.specs.Reading.{certificateAt, certificateEnd, certificates}
 use Rattle.submission.proofs.Certificates.{certificates-first}
 

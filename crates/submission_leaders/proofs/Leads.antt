@@ -5,18 +5,17 @@ use mathlib.Core.Path.{_≡_, refl, _∙_}
 use mathlib.Core.Bool.{Bool, true, false, cond}
 use mathlib.Core.List.{List, []}
 use Prim.Native.Nat.{ℕ, _+_, _≤_, _<_}
-use native.Mathlib.Nat.{add-assoc}
 use borrow.Author.Tests.{le-leb, lt-leb, eq-eqb, ne-eqb}
 use lib.Dec.{eqb}
-use lib.ListN.{length, take, drop}
-use Rattle.words.specs.BigEndian.{numberAt, same}
+use lib.ListN.{length}
+use Rattle.words.specs.BigEndian.{same}
 use Rattle.refusal.specs.Checks.{all}
 use Rattle.roster.specs.Masks.{signer}
 use Rattle.log_chain.specs.Log.{version1, Record, pointer, lastTerm}
 use Rattle.log_chain.specs.Claim.{Ballot}
 use Rattle.log_chain.proofs.Pointers.{pointer-name}
-use Rattle.submission.specs.View.{run, Certificate}
-use Rattle.submission.specs.Reading.{ballotSize, ballotAt, signersAt}
+use Rattle.log_chain.specs.Runs.{run}
+use Rattle.submission.specs.View.{Certificate}
 use Rattle.submission.specs.Validate.{leading}
 use Rattle.submission_leaders.specs.Leads.{follows, elected}
 

@@ -7,7 +7,8 @@ use lib.Count.{ones, onesIn}
 use lib.ListN.{replicate}
 use Rattle.words.specs.BigEndian.{number, be, numberAt}
 use Rattle.submission.specs.Trailer.{word, recordCount, leaderCount, distance}
-use Rattle.submission.specs.Reading.{recordSize, ballotSize, signersAt, certificateEnd, certificatesEnd, commitAt, leadersFrom, stampsFrom, commitFrom}
+use Rattle.log_chain.specs.Records.{recordSize}
+use Rattle.submission.specs.Reading.{ballotSize, signersAt, certificateEnd, certificatesEnd, commitAt, leadersFrom, stampsFrom, commitFrom}
 use Rattle.submission_parts.specs.Reader.{commitNumbersAt}
 use Rattle.submission_parts.specs.declared.CommitPart.the-variants.{Found, Absent}
 use Rattle.submission_parts.specs.Commits.{commitPart}

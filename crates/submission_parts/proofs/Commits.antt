@@ -1,24 +1,20 @@
 -- Part 4: its certificate is the definition's.
 -- Assumes nothing.
 use mathlib.Core.Path.{_≡_}
-use mathlib.Core.Bool.{true, false}
 use mathlib.Core.List.{List}
 use mathlib.Core.Logic.{⊎-elim}
 use mathlib.Core.Option.{some, none}
 use Prim.Native.Nat.{ℕ, _<_}
 use native.Mathlib.Omega.{arith}
-use borrow.Author.Tests.{eqb-true, eqb-false, eq-eqb, ne-eqb, lt-ltb, le-ltb}
-use lib.Dec.{eqb, leb}
-use lib.ListN.{length}
-use Rattle.refusal.proofs.Laws.{look, first-fails, first-holds, all-one}
+use borrow.Author.Tests.{eqb-true, eqb-false, eq-eqb, ne-eqb}
+use lib.Dec.{eqb}
+use Rattle.refusal.proofs.Laws.{look}
 use Rattle.submission_parts.specs.declared.Commit.{Commit}
 use Rattle.submission_parts.specs.declared.CommitPart.the-variants.{Found, Absent}
-use Rattle.submission.specs.Trailer.{recordCount, distance}
-use Rattle.submission.specs.Reading.{commitAt, commitFrom, commitOf, view}
+use Rattle.submission.specs.Trailer.{distance}
+use Rattle.submission.specs.Reading.{commitAt, commitFrom, commitOf}
 use Rattle.submission_parts.specs.Reader.{commitNumbersAt}
 use Rattle.submission_parts.specs.Commits.{commitPart}
-use Rattle.submission.specs.Validate.{within}
-use Rattle.submission.proofs.Fits.{length-records}
 
 module _ (S : ℕ) (s : List ℕ) where
   pub absent : distance s 4 ≡ 0 → Absent ≡ commitPart S s

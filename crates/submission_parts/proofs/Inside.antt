@@ -10,7 +10,8 @@ use borrow.Author.Tests.{leb-true, eqb-true, ne-eqb}
 use lib.ListN.{length}
 use Rattle.refusal.proofs.Laws.{all-cons}
 use Rattle.submission.specs.Trailer.{trailerSize, trailerAt, recordCount, leaderCount, distance}
-use Rattle.submission.specs.Reading.{recordSize, certificatesEnd, commitEnd, leadersFrom, stampsFrom, commitFrom, laidOut}
+use Rattle.log_chain.specs.Records.{recordSize}
+use Rattle.submission.specs.Reading.{certificatesEnd, commitEnd, leadersFrom, stampsFrom, commitFrom, laidOut}
 use Rattle.submission_parts.specs.Reader.{signatureMost}
 use Rattle.submission_parts.specs.Parts.{Bounds}
 use Rattle.submission.specs.Validate.{submissionMost, recordMost, leaderMost, sized, counted}

@@ -5,6 +5,7 @@ ghost use Prim.Native.Nat.{_+_, _-_, _*_, _≤_};
 ghost use lib.ListN.{length};
 ghost use Rattle.refusal.specs.Checks.{all};
 ghost use Rattle.submission.specs.Trailer.{trailerSize, trailerAt, recordCount, distance};
+ghost use Rattle.log_chain.specs.Records.{recordSize};
 ghost use Rattle.submission.specs.Reading as paper;
 ghost use Rattle.submission_parts.specs.Reader.{signatureMost};
 ghost use Rattle.submission_parts.specs.Parts.{Bounds, commitTests, leaderTests};
@@ -51,7 +52,7 @@ fn leaders_stand(s: &[u8], from: usize, size: usize) -> bool
 // The place of part 2, after the records.
 pub fn leaders_from(s: &[u8]) -> usize
     requires { ⌜ (trailerSize ≤ length (now s)) × (recordCount (now s) ≤ recordMost) ⌝ }
-    ensures { λ r. ⌜ r ≡ paper.recordSize 4 * recordCount (now (s .entry)) ⌝ }
+    ensures { λ r. ⌜ r ≡ recordSize 4 * recordCount (now (s .entry)) ⌝ }
 {
     RECORD_SIZE * submission_trailer::record_count(s)
 }

@@ -16,11 +16,12 @@ use Rattle.refusal.specs.Checks.{every}
 use Rattle.refusal.proofs.Laws.{look, all-cons, cond-true, every-append}
 use Rattle.roster.specs.Roster.{replicas}
 use Rattle.submission.specs.Trailer.{recordCount, leaderCount, distance}
-use Rattle.submission.specs.View.{runs}
-use Rattle.submission.specs.Reading.{recordSize, recordsOf, signersAt, certificates, certificatesEnd, commitAt, commitEnd, leadersFrom, commitFrom, commitOf, view}
+use Rattle.log_chain.specs.Runs.{runs}
+use Rattle.log_chain.specs.Records.{recordSize, recordsOf}
+use Rattle.submission.specs.Reading.{signersAt, certificates, certificatesEnd, commitAt, commitEnd, leadersFrom, commitFrom, commitOf, view}
 use Rattle.submission.specs.Validate.{quorate, commitSigners, masks, oneEach, within}
 use Rattle.submission.proofs.Accepted.{length-certificates}
-use Rattle.submission.proofs.Fits.{length-records}
+use Rattle.log_chain.proofs.Records.{length-records}
 use Rattle.submission.proofs.Slots.{quorate-facts}
 use Rattle.submission_parts.proofs.Inside.{records-inside, leaders-inside, commit-inside}
 use Rattle.submission_signatures.specs.Votes.{quorateAll}

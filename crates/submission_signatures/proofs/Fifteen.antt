@@ -10,7 +10,8 @@ use native.Mathlib.Omega.{arith}
 use lib.ListN.{length}
 use Rattle.refusal.specs.Checks.{every}
 use Rattle.refusal.proofs.Laws.{every-append}
-use Rattle.submission.specs.View.{Certificate, Commit, Run, runs, View, leadsOf, leads, Slot, votesOf, stampOf, receiptsOf, slots}
+use Rattle.submission.specs.View.{Certificate, Commit, View, leadsOf, leads, Slot, votesOf, stampOf, receiptsOf, slots}
+use Rattle.log_chain.specs.Runs.{Run, runs}
 use Rattle.submission_signatures.specs.Votes.{ballots}
 
 -- ---- two tests

@@ -1,7 +1,7 @@
 -- The bytes that the code puts together are those of the claim: a field's bytes are those of the number read from them, and the parts of a
 -- vote stand one after the other.
 -- Assumes nothing.
-use mathlib.Core.Path.{_≡_, refl, sym, ap, _∙_}
+use mathlib.Core.Path.{_≡_, sym, ap, _∙_}
 use mathlib.Core.List.{List, [], _∷_, _++_, append-assoc}
 use mathlib.Core.Option.{some}
 use Prim.Native.Nat.{ℕ, _+_, _≤_, zero-le}
@@ -20,11 +20,12 @@ use Rattle.log_chain.specs.Log.{version1, Record, pointer, lastTerm}
 use Rattle.log_chain.specs.Claim.{stamped, received, voted, say, place, ballotBytes}
 use Rattle.log_chain.proofs.Pointers.{pointer-name}
 use Rattle.submission.specs.View.{receiptsOf}
-use Rattle.submission.specs.Reading.{recordsOf, ballotSize, ballotAt, signersAt, certificateAt, commitAt}
+use Rattle.log_chain.specs.Records.{recordsOf}
+use Rattle.submission.specs.Reading.{ballotSize, ballotAt, signersAt, certificateAt, commitAt}
 use Rattle.submission.specs.Validate.{genuine, formOf}
 use Rattle.submission_slots.specs.Signatures.{goodAll}
 use Rattle.submission_signatures.specs.Votes.{ballots}
-use Rattle.submission.proofs.Fits.{length-records}
+use Rattle.log_chain.proofs.Records.{length-records}
 use Rattle.log_terms.proofs.Records.{take-records}
 use Rattle.submission_slots.proofs.Signed.{goodAll-certified}
 

@@ -13,10 +13,12 @@ use Rattle.refusal.specs.Checks.{every}
 use Rattle.lms.specs.Check.{good}
 use Rattle.roster.specs.Roster.{cluster, keyOf}
 use Rattle.log_chain.specs.Log.{version1, Record, pointer, lastTerm}
-use Rattle.submission.specs.View.{Run, leadsOf, stampOf, slot}
+use Rattle.log_chain.specs.Runs.{Run}
+use Rattle.submission.specs.View.{leadsOf, stampOf, slot}
 use Rattle.submission.specs.Reading.{ballotAt, certificateAt, certificateEnd, certificates}
 use Rattle.submission.specs.Validate.{genuine, formOf}
-use Rattle.submission.proofs.Linked.{Linked, leadAt, leadsFrom, leads-first, TermsLeft, Turn, turn}
+use Rattle.log_chain.proofs.Linked.{Linked}
+use Rattle.submission.proofs.Linked.{leadAt, leadsFrom, leads-first, TermsLeft, Turn, turn}
 use Rattle.submission_signatures.proofs.Said.{stamp-said}
 
 module _ (roster s : List ℕ) (S : ℕ) (log : List Record) where

@@ -1,7 +1,7 @@
 -- The fork and the rows from the first difference of the logs and the receipts.
 -- Assumes nothing.
 use native.Mathlib.Omega.{arith}
-use Rattle.submission.specs.Reading.{recordSize}
+use Rattle.log_chain.specs.Records.{recordSize}
 use Rattle.submission_parts.proofs.Inside.{records-inside}
 use Rattle.forensics_find.proofs.Shown.{read-says}
 use borrow.Author.Needs.{needs}

@@ -1,6 +1,5 @@
 -- Numbers that fit their bytes.
 -- Assumes nothing.
-use native.Mathlib.Omega.{arith}
 use borrow.Author.Needs.{needs}
 use Rattle.lm_chain_blocks.specs.Block.{firstWord}
 use Rattle.lm_chain_blocks.proofs.first.Statement.{statement}

@@ -2,7 +2,6 @@
 -- Assumes nothing.
 use mathlib.Core.Path.{sym}
 use Prim.Native.Nat.{_^_, _<_}
-use native.Mathlib.Omega.{arith}
 use Rattle.lm_chain_blocks.proofs.Blocks.{step-words}
 use borrow.Author.Needs.{needs}
 use Rattle.lm_chain_blocks.proofs.step_block.Statement.{statement}

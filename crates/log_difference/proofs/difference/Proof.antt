@@ -6,8 +6,8 @@ use native.Mathlib.Numerals.{add-one}
 use native.Mathlib.Omega.{arith}
 use borrow.Author.Tests.{not-true, not-false}
 use Rattle.words.proofs.Laws.{bytes-each}
-use Rattle.submission.specs.Reading.{recordSize, recordsOf}
-use Rattle.forensics.specs.Findings.{differAt}
+use Rattle.log_chain.specs.Records.{recordSize, recordsOf}
+use Rattle.log_chain.specs.Difference.{differAt}
 use Rattle.log_difference.proofs.Steps.{differFrom, from-first, from-end-first, from-end-second, from-next, from-here, record-test}
 use Rattle.log_difference.proofs.difference.Statement.{statement}
 use Rattle.log_difference.proofs.difference.Tie as tie

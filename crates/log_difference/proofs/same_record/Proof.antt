@@ -5,7 +5,7 @@ use mathlib.Core.Path.{_≡_}
 use Prim.Native.Nat.{_+_, _-_}
 use native.Mathlib.Omega.{arith}
 use Rattle.words.proofs.Same.{same-test}
-use Rattle.submission.specs.Reading.{recordSize}
+use Rattle.log_chain.specs.Records.{recordSize}
 use borrow.Author.Needs.{needs}
 use Rattle.log_difference.proofs.same_record.Statement.{statement}
 use Rattle.log_difference.proofs.same_record.Tie as tie

@@ -5,7 +5,7 @@ use Prim.Native.Nat.{ℕ, suc, _-_}
 use native.Mathlib.Omega.{arith}
 use borrow.Author.Needs.{needs}
 use Rattle.log_chain.specs.Log.{lastTerm, termFrom}
-use Rattle.submission.specs.Reading.{recordSize, recordsOf}
+use Rattle.log_chain.specs.Records.{recordSize, recordsOf}
 use Rattle.log_terms.proofs.Records.{records-last}
 use Rattle.log_terms.proofs.Walks.{record-term}
 use Rattle.log_terms.proofs.last_term.Statement.{statement}

@@ -4,8 +4,8 @@ use mathlib.Core.Path.{_≡_, ap}
 use Prim.Native.Nat.{_+_, _-_, _≤_}
 use native.Mathlib.Omega.{arith}
 use lib.ListN.{length}
-use Rattle.submission.specs.View.{runs}
-use Rattle.submission.specs.Reading.{recordsOf}
+use Rattle.log_chain.specs.Runs.{runs}
+use Rattle.log_chain.specs.Records.{recordsOf}
 use Rattle.log_terms.specs.Later.{runsLeft}
 use Rattle.log_terms.proofs.Walks.{runs-all, runs-none}
 use Rattle.log_terms.proofs.run_count.Statement.{statement}

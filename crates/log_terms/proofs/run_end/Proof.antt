@@ -5,8 +5,8 @@ use Prim.Native.Nat.{_-_, _≤_, _<_}
 use native.Mathlib.Numerals.{add-one}
 use native.Mathlib.Omega.{arith}
 use Rattle.log_chain.specs.Log.{lastTerm}
-use Rattle.submission.specs.View.{runsFrom}
-use Rattle.submission.specs.Reading.{recordSize, recordsOf}
+use Rattle.log_chain.specs.Runs.{runsFrom}
+use Rattle.log_chain.specs.Records.{recordSize, recordsOf}
 use Rattle.log_terms.specs.Later.{recordsAfter, runsLeft}
 use Rattle.log_terms.proofs.Records.{records-last}
 use Rattle.log_terms.proofs.Walks.{record-term, starts, goes, ends, ends-log}

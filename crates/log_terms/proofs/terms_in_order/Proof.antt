@@ -4,8 +4,8 @@ use mathlib.Core.Path.{_≡_, ap, _∙_}
 use Prim.Native.Nat.{ℕ, suc, _-_, _≤_}
 use native.Mathlib.Numerals.{add-one}
 use native.Mathlib.Omega.{arith}
-use Rattle.replica.specs.Ends.{rising}
-use Rattle.submission.specs.Reading.{recordSize, recordsOf}
+use Rattle.log_chain.specs.Ends.{rising}
+use Rattle.log_chain.specs.Records.{recordSize, recordsOf}
 use Rattle.log_terms.specs.Later.{recordsAfter}
 use Rattle.log_terms.proofs.Records.{after-all}
 use Rattle.log_terms.proofs.Rising.{falls, climbs, risen}

@@ -3,7 +3,6 @@
 use mathlib.Core.Path.{sym, _∙_}
 use borrow.Author.Tests.{not-true, not-false, eq-eqb, ne-eqb}
 use Rattle.refusal.proofs.Laws.{passed, refused}
-use Rattle.submission.specs.Validate.{ordered}
 use Rattle.submission_checks.specs.Checks.{logChecks}
 use Rattle.submission_signatures.proofs.Facts.{records-in}
 use Rattle.submission_checks.proofs.Facts.{asked-ordered, asked-count}

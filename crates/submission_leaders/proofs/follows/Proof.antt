@@ -7,8 +7,9 @@ use native.Mathlib.Omega.{arith}
 use borrow.Author.Needs.{needs}
 use Rattle.words.proofs.Same.{same-test}
 use Rattle.sha256.specs.Sha256.{bytesOf}
-use Rattle.submission.specs.Reading.{ballotSize, ballotAt, recordsOf}
-use Rattle.submission.proofs.Fits.{length-records}
+use Rattle.submission.specs.Reading.{ballotSize, ballotAt}
+use Rattle.log_chain.specs.Records.{recordsOf}
+use Rattle.log_chain.proofs.Records.{length-records}
 use Rattle.submission.proofs.Places.{last-term-at, last-index-at, last-pointer-at}
 use Rattle.submission_leaders.proofs.Leads.{other-term, other-index, by-pointer}
 use Rattle.submission_leaders.proofs.follows.Statement.{statement}

@@ -9,8 +9,10 @@ use lib.ListN.{length, drop}
 use Rattle.sha256.specs.Sha256.{bytesOf}
 use Rattle.refusal.specs.Checks.{every}
 use Rattle.log_chain.specs.Log.{version1, pointer}
-use Rattle.submission.specs.View.{runs, leadsOf}
-use Rattle.submission.specs.Reading.{recordSize, recordsOf, certificates, certificatesEnd}
+use Rattle.log_chain.specs.Runs.{runs}
+use Rattle.submission.specs.View.{leadsOf}
+use Rattle.log_chain.specs.Records.{recordSize, recordsOf}
+use Rattle.submission.specs.Reading.{certificates, certificatesEnd}
 use Rattle.log_terms.specs.Later.{runsLeft}
 use Rattle.submission.specs.Validate.{leading}
 use Rattle.submission.proofs.Certificates.{certificate-head, first-inside, rest-inside}
@@ -44,7 +46,7 @@ next-run-requires c κs =
     let start = c .before .before .before .before in
     let l = c .before .loop in
     let a = start .args in
-    (runs-some 4 (a .records) (l .i) (a .s .now) (omega arith), start .pre .0, start .pre .1, l .inv .4)
+    (runs-some 4 (a .records) (l .i) (a .s .now) (omega arith), omega (arith, start .pre .0), start .pre .1, l .inv .4)
 
 leading-requires : tie.Need-leading-requires Inv-loop μ-loop
 unfolding recordSize

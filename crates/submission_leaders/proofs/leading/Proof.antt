@@ -5,7 +5,8 @@ use native.Mathlib.Omega.{arith}
 use borrow.Author.Needs.{needs}
 use borrow.Author.Tests.{not-true, not-false}
 use Rattle.sha256.specs.Sha256.{bytesOf}
-use Rattle.submission.specs.Reading.{ballotSize, recordsOf, certificateAt}
+use Rattle.submission.specs.Reading.{ballotSize, certificateAt}
+use Rattle.log_chain.specs.Records.{recordsOf}
 use Rattle.submission.proofs.Places.{term-at}
 use Rattle.submission_leaders.proofs.Leads.{wrong-term, wrong-last, by-election}
 use Rattle.submission_leaders.proofs.leading.Statement.{statement}

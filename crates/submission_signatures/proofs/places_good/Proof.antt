@@ -1,11 +1,11 @@
 -- Without a commit certificate there are no receipts; with one, its pointer is kept on the way to the log's end.
 -- Assumes nothing.
 use mathlib.Core.Path.{sym, _∙_}
-use native.Mathlib.Nat.{le-trans}
 use native.Mathlib.Omega.{arith}
 use borrow.Author.Needs.{needs}
 use borrow.Author.Tests.{not-true, not-false}
-use Rattle.submission.specs.Reading.{recordsOf, commitAt, view}
+use Rattle.log_chain.specs.Records.{recordsOf}
+use Rattle.submission.specs.Reading.{commitAt, view}
 use Rattle.submission_parts.specs.Reader.{commitNumbersAt}
 use Rattle.submission_parts.proofs.Commits.{absent-says, found-says}
 use Rattle.submission_signatures.proofs.Facts.{records-in, upto-in, commit-signers, commit-within, commit-end-in}
@@ -33,7 +33,7 @@ pointer-after-requires c κs =
     let told = found-says (a .size) (a .s .now) (sym (c .before .before .before .before .before .commit-part .ensures) ∙ c .before .before .before .c .given .1) in
     let w = commit-within (a .size) (a .s .now) _ (told .2) (p .commit) in
     rw (told .0)
-    (omega arith, le-trans w (laid .bounds .records), upto-in (a .roster .now) (a .size) (a .s .now) laid _ w, c .pointer-zero2 .ensures)
+    (omega arith, omega (arith, w, laid .bounds .records), upto-in (a .roster .now) (a .size) (a .s .now) laid _ w, c .pointer-zero2 .ensures)
 
 stamps-good-from-requires-2 : tie.Need-stamps-good-from-requires-2
 unfolding commitNumbersAt commitAt

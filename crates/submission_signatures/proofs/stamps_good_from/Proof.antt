@@ -12,7 +12,7 @@ pointer-after-requires : tie.Need-pointer-after-requires
 pointer-after-requires c κs =
     let p = c .before .before .before .pre in
     let laid = p .0 .counted .laid in
-    rw (c .record-count .ensures .0) (p .1, laid .bounds .records, records-in _ _ _ laid, p .2)
+    rw (c .record-count .ensures .0) (p .1, omega (arith, laid .bounds .records), records-in _ _ _ laid, p .2)
 
 stamps-good-requires : tie.Need-stamps-good-requires
 unfolding leads view leadersFrom

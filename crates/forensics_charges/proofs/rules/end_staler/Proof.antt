@@ -1,7 +1,7 @@
 -- Terms that are equal leave it to the indexes.
 -- Assumes nothing.
 use borrow.Author.Tests.{eq-eqb, ne-eqb}
-use Rattle.replica.specs.Ends.{staler}
+use Rattle.log_chain.specs.Ends.{staler}
 use Rattle.forensics_charges.proofs.rules.end_staler.Statement.{statement}
 use Rattle.forensics_charges.proofs.rules.end_staler.Tie as tie
 

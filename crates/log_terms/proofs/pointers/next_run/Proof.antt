@@ -1,7 +1,7 @@
 -- The term's end, and the pointer of the record there.
 -- Assumes nothing.
 use borrow.Author.Needs.{needs}
-use Rattle.submission.specs.Reading.{recordSize}
+use Rattle.log_chain.specs.Records.{recordSize}
 use Rattle.log_terms.proofs.pointers.next_run.Statement.{statement}
 use Rattle.log_terms.proofs.pointers.next_run.Tie as tie
 

@@ -6,7 +6,7 @@ use Prim.Native.Nat.{_-_, _≤_}
 use native.Mathlib.Omega.{arith}
 use Rattle.sha256.specs.Sha256.{bytesOf}
 use Rattle.log_chain.specs.Log.{version1, pointer}
-use Rattle.submission.specs.Reading.{recordSize, recordsOf}
+use Rattle.log_chain.specs.Records.{recordSize, recordsOf}
 use Rattle.log_terms.proofs.pointers.pointer_after.Statement.{statement}
 use Rattle.log_terms.proofs.pointers.pointer_after.Tie as tie
 

@@ -11,7 +11,7 @@ use Rattle.words.specs.BigEndian.{be}
 use Rattle.words.proofs.Laws.{bytes-each}
 use Rattle.sha256.specs.Sha256.{sha256}
 use Rattle.log_chain.specs.Log.{version1, pointer}
-use Rattle.submission.specs.Reading.{recordSize, recordsOf}
+use Rattle.log_chain.specs.Records.{recordSize, recordsOf}
 use Rattle.log_terms.proofs.Next.{pointer-next}
 use borrow.Author.Needs.{needs}
 use Rattle.log_terms.proofs.pointers.step.Statement.{statement}

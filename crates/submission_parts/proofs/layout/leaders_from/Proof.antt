@@ -1,6 +1,6 @@
 -- The records have the bytes of the definition.
 -- Assumes nothing.
-use Rattle.submission.specs.Reading.{recordSize}
+use Rattle.log_chain.specs.Records.{recordSize}
 use borrow.Author.Needs.{needs}
 use Rattle.submission_parts.proofs.layout.leaders_from.Statement.{statement}
 use Rattle.submission_parts.proofs.layout.leaders_from.Tie as tie

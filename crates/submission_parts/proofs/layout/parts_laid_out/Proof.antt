@@ -4,7 +4,8 @@ use mathlib.Core.Path.{ap, _∙_}
 use Prim.Native.Nat.{ℕ}
 use native.Mathlib.Omega.{arith}
 use Rattle.refusal.specs.Checks.{all}
-use Rattle.submission.specs.Reading.{recordSize, leadersFrom}
+use Rattle.log_chain.specs.Records.{recordSize}
+use Rattle.submission.specs.Reading.{leadersFrom}
 use Rattle.submission_parts.specs.Parts.{leaderTests}
 use Rattle.submission_parts.proofs.Standing.{records-elsewhere, leaders-elsewhere, leaders-here}
 use borrow.Author.Needs.{needs}

@@ -11,7 +11,8 @@ use Rattle.sha256.specs.Sha256.{bytesOf}
 use Rattle.roster.specs.Roster.{cluster}
 use Rattle.roster.specs.Masks.{replicasOf}
 use Rattle.log_chain.specs.Log.{lastTerm}
-use Rattle.submission.specs.Reading.{recordSize, recordsOf, signersAt, commitEnd}
+use Rattle.log_chain.specs.Records.{recordSize, recordsOf}
+use Rattle.submission.specs.Reading.{signersAt, commitEnd}
 use Rattle.submission_slots.specs.Signatures.{goodAll}
 use Rattle.submission_signatures.proofs.Said.{name-length, receipt-slots}
 use borrow.Author.Needs.{needs}

@@ -7,13 +7,16 @@ use native.Mathlib.Omega.{arith}
 use lib.ListN.{length}
 use Rattle.refusal.specs.Checks.{every}
 use Rattle.log_chain.specs.Log.{version1, pointer}
-use Rattle.submission.specs.View.{runs, leadsOf, stampOf}
-use Rattle.submission.specs.Reading.{recordsOf, certificates, certificatesEnd, stampsAt}
+use Rattle.log_chain.specs.Runs.{runs}
+use Rattle.submission.specs.View.{leadsOf, stampOf}
+use Rattle.log_chain.specs.Records.{recordsOf}
+use Rattle.submission.specs.Reading.{certificates, certificatesEnd, stampsAt}
 use Rattle.submission.specs.Validate.{genuine, formOf}
-use Rattle.submission.proofs.Fits.{length-records}
+use Rattle.log_chain.proofs.Records.{length-records}
 use Rattle.submission.proofs.Certificates.{rest-inside, first-inside}
 use Rattle.submission_signatures.proofs.Turns.{fields-room, next-fields, stamps-room}
-use Rattle.submission.proofs.Linked.{linked-runs, leadsFrom}
+use Rattle.log_chain.proofs.Linked.{linked-runs}
+use Rattle.submission.proofs.Linked.{leadsFrom}
 use Rattle.submission_signatures.proofs.StampsLeft.{StampsLeft, stamps-done, this, not-last, is-last, stamp-fail, stamp-next, stamp-last}
 use Rattle.submission_signatures.proofs.stamps.stamps_good.Statement.{statement}
 use Rattle.submission_signatures.proofs.stamps.stamps_good.Tie as tie

@@ -11,8 +11,8 @@ use borrow.Author.Tests.{ltb-false, eqb-true, eqb-false, leb-true, le-ltb, le-le
 use lib.Dec.{eqb, ltb, leb}
 use lib.ListN.{take}
 use Rattle.refusal.proofs.Laws.{look, cond-true}
 use Rattle.log_chain.specs.Log.{Record, termFrom, lastTerm}
-use Rattle.replica.specs.Ends.{rising, staler}
+use Rattle.log_chain.specs.Ends.{rising, staler}
 
 -- ---- ends
 

@@ -11,9 +11,9 @@ use lib.Dec.{eqb, ltb}
 use lib.ListN.{length, take, length-append}
 use lib.Seq.{append-snoc, take-append-seam, take-at}
 use Rattle.refusal.proofs.Laws.{look}
 use Rattle.log_chain.specs.Log.{Record, termFrom, lastTerm}
-use Rattle.replica.proofs.Order.{last-snoc}
-use Rattle.submission.specs.View.{Run, run, runsFrom, runs, runsAfter}
+use Rattle.log_chain.proofs.Order.{last-snoc}
+use Rattle.log_chain.specs.Runs.{Run, run, runsFrom, runs, runsAfter}
 
 -- ---- one record more
 
