@@ -15,6 +15,7 @@ use Rattle.sha256.specs.Sha256.{parse, padding, zeros, wordsOf, bytesOf}
 use Rattle.lm_hash.specs.declared.Leaf.{Leaf}
 use Rattle.lm_hash.specs.Identifier.{identifier}
 use Rattle.sha256_lanes.specs.Lane.{changed}
+use Rattle.sha256_lane_words.proofs.Places.{changed-in}
 use Rattle.lm_chain_blocks.specs.Block.{stepBlock, firstWord, acrossWord, lastWord}
 
 -- the bytes of a number and one more
@@ -76,6 +77,17 @@ pub block-length : (leaf : Leaf) (i j : ℕ) (t : State) → length (stepBlock l
 block-length leaf i j t = ap length (block-words leaf i j t)
 
 -- ---- the next step's words in the places of the last one's
+
+-- three words put one after the other, each known by another name
+pub three-puts : (i j m : ℕ) (f0 f1 f2 f3 : ℕ → ℕ) {x x′ y y′ z z′ : ℕ}
+    → ((k : ℕ) → f1 k ≡ changed i x f0 k) → x ≡ x′
+    → ((k : ℕ) → f2 k ≡ changed j y f1 k) → y ≡ y′
+    → ((k : ℕ) → f3 k ≡ changed m z f2 k) → z ≡ z′
+    → (k : ℕ) → f3 k ≡ changed m z′ (changed j y′ (changed i x′ f0)) k
+three-puts i j m f0 f1 f2 f3 {x} {x′} {y} {y′} {z} {z′} h1 ex h2 ey h3 ez k =
+    h3 k ∙ (λ n. changed m (ez n) f2 k)
+    ∙ changed-in m z′ (λ q. h2 q ∙ (λ n. changed j (ey n) f1 q)
+    ∙ changed-in j y′ (λ r. h1 r ∙ (λ n. changed i (ex n) f0 r)) q) k
 
 -- what holds below a number, and of it, holds below the next
 below : (P : ℕ → Type 0) (k : ℕ) → ((n : ℕ) → n < k → P n) → P k → (n : ℕ) → n < suc k → P n

@@ -81,7 +81,7 @@ charges : (twoStamps 1 (of 1 0 ∷ []) 1 (of 1 0 ∷ of 1 1 ∷ []) ≡ false) �
 unfolding of ballot twoStamps agree sameRecord same twoVotes
 charges = (refl, refl, refl, refl, refl, refl)
 
--- ---- what the rules leave open: an act is allowed that a stricter rule would forbid
+-- ---- what the rules leave open: acts that a stricter rule would forbid, and beside them some that are forbidden
 
 -- the first vote of all, in term 0 too; a candidate whose last term is above the vote's; a vote after a stamp in the term; the largest numbers
 open-votes : (at 1 [] (vote (ballot 1 1 0 0)) ≡ true) × (at 0 [] (vote (ballot 3 0 0 0)) ≡ true) × (may none (vote (ballot 2 5 9 1)) ≡ true)

@@ -30,10 +30,15 @@ step-block-requires-4 c κs = c .before .before .before .before .pre .1 fourth
 returns : tie.Need-returns
 unfolding pick lane state
 returns c =
-    let a = c .before .before .before .before .before .before .before .before .before .args in
-    let told : (l : Lane) → pick l (c .before .before .before .before .before .before .before .step-block .result) (c .before .before .before .before .before .before .step-block2 .result) (c .before .before .before .before .before .step-block3 .result) (c .before .before .before .before .step-block4 .result)
+    let fourth = c .before .before .before .before in
+    let third = fourth .before in
+    let second = third .before in
+    let one = second .before in
+    let a = one .before .before .args in
+    let told : (l : Lane)
+    → pick l (one .step-block .result) (second .step-block2 .result) (third .step-block3 .result) (fourth .step-block4 .result)
     ≡ stepBlock (a .leaf) (lane l (a .i)) (lane l (a .j)) (state l (a .t)) =
-    each _ (c .before .before .before .before .before .before .before .step-block .ensures) (c .before .before .before .before .before .before .step-block2 .ensures) (c .before .before .before .before .before .step-block3 .ensures) (c .before .before .before .before .step-block4 .ensures) in
+    each _ (one .step-block .ensures) (second .step-block2 .ensures) (third .step-block3 .ensures) (fourth .step-block4 .ensures) in
     λ l n h. c .before .before .load .ensures l n h ∙ ap (λ (w : List ℕ). getD w n 0) (told l)
 
 pub first-blocks-spec : {M : Type 1} → statement M

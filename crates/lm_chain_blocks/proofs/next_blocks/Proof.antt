@@ -10,9 +10,11 @@ use Rattle.lm_chain_blocks.proofs.next_blocks.Tie as tie
 returns : tie.Need-returns
 unfolding pick lane state
 returns c =
-    let h1 = c .before .before .before .before .before .before .before .before .before .before .put-first .ensures in
-    let h2 = c .before .before .before .before .before .before .put-middle .ensures in
-    let h3 = c .before .before .put-last .ensures in
+    let last = c .before .before in
+    let middle = last .before .before .before .before in
+    let h1 = middle .before .before .before .before .put-first .ensures in
+    let h2 = middle .put-middle .ensures in
+    let h3 = last .put-last .ensures in
     each _
     (λ leaf n v. moved-on leaf _ _ n _ v _ _ _ _ (h1 first) (h2 first) (h3 first))
     (λ leaf n v. moved-on leaf _ _ n _ v _ _ _ _ (h1 second) (h2 second) (h3 second))

@@ -17,16 +17,17 @@ returns c =
     let h2 : l .i2 < 2 ^ 32 = search needs in
     let h3 : l .i3 < 2 ^ 32 = search needs in
     let hq : l .q < 2 ^ 32 = search needs in
+    let four = c .before .before .before .before in
     simp (
       c .last .ensures,
       c .before .joined7 .ensures,
       c .before .before .joined6 .ensures,
       c .before .before .before .joined5 .ensures,
-      c .before .before .before .before .joined4 .ensures,
-      c .before .before .before .before .before .joined3 .ensures,
-      c .before .before .before .before .before .before .joined2 .ensures,
-      c .before .before .before .before .before .before .before .joined .ensures,
-      c .before .before .before .before .before .before .before .before .first .ensures,
+      four .joined4 .ensures,
+      four .before .joined3 .ensures,
+      four .before .before .joined2 .ensures,
+      four .before .before .before .joined .ensures,
+      four .before .before .before .before .first .ensures,
     )
     (sym (step-words l (start .args .i) (start .args .j) t h0 h1 h2 h3 hq))
 
