@@ -6,8 +6,9 @@ ghost use lib.ListN.{length, replicate};
 ghost use Rattle.text_decimal.specs.Put.{Put};
 ghost use Rattle.text_line.specs.Room.{replicaRoom};
 ghost use Rattle.text_report.specs.Lines.{namedLine, replicaLines, lines};
+ghost use Rattle.forensics.specs.Findings.{rowCount};
 ghost use Rattle.report.specs.Report.{reportSize};
-ghost use Rattle.text_report.specs.Room.{rows, replicasRoom, linesRoom, textSize};
+ghost use Rattle.text_report.specs.Room.{replicasRoom, linesRoom, textSize};
 use forensics::ROW_COUNT;
 use report::FORK_AT;
 use report::MASK_AT;
@@ -22,7 +23,7 @@ pub const TEXT_SIZE: usize = 512;
 
 // Puts the line of replica k, if a report names it.
 fn put_named(out: &mut [u8], at: usize, report: &[u8], k: usize) -> usize
-    requires { ⌜ (length (now report) ≡ reportSize) × (0 < k) × (k ≤ rows)
+    requires { ⌜ (length (now report) ≡ reportSize) × (0 < k) × (k ≤ rowCount)
         × (at + replicaRoom ≤ length (now out)) ⌝ }
     ensures { λ r. ⌜ Put (now (out .entry)) (now (out .exit)) at r
         (namedLine (now (report .entry)) k) replicaRoom ⌝ }
@@ -40,7 +41,7 @@ fn put_named(out: &mut [u8], at: usize, report: &[u8], k: usize) -> usize
 fn put_replicas(out: &mut [u8], at: usize, report: &[u8]) -> usize
     requires { ⌜ (length (now report) ≡ reportSize) × (at + replicasRoom ≤ length (now out)) ⌝ }
     ensures { λ r. ⌜ Put (now (out .entry)) (now (out .exit)) at r
-        (replicaLines (now (report .entry)) rows 1) replicasRoom ⌝ }
+        (replicaLines (now (report .entry)) rowCount 1) replicasRoom ⌝ }
 {
     let mut next = at;
     let mut k: usize = 1;
