@@ -14,8 +14,8 @@ pub mod rules;
 // last record in this log, where the stamp is.
 pub struct Tenure {
     pub candidate: u16,
-    pub term: u32,
-    pub last_term: u32,
+    pub term: u64,
+    pub last_term: u64,
     pub last_index: u32,
     pub signers: u16,
     pub end: u32,
@@ -24,7 +24,7 @@ pub struct Tenure {
 // The receipts of a submission: the term and the index of the record, and the replicas that gave them.
 // Without a commit certificate all are 0: nobody has given one.
 pub struct Receipt {
-    pub term: u32,
+    pub term: u64,
     pub index: u32,
     pub signers: u16,
 }
@@ -32,7 +32,7 @@ pub struct Receipt {
 // A row of the report: the rule and the term, both 0 for a replica that is not named.
 pub struct Row {
     pub rule: u8,
-    pub term: u32,
+    pub term: u64,
 }
 
 // The fork index, and the rows of replicas 1 to 9.
@@ -58,14 +58,14 @@ pub fn lower_row(x: Row, y: Row) -> Row
     if y.rule == 0 {
         return x;
     }
-    if rules::end_staler(y.rule as u32, y.term, x.rule as u32, x.term) {
+    if rules::end_staler(y.rule as u64, y.term, x.rule as u64, x.term) {
         return y;
     }
     x
 }
 
 // The row for a rule, where it is broken.
-fn charged(broken: bool, rule: u8, term: u32) -> Row
+fn charged(broken: bool, rule: u8, term: u64) -> Row
     requires { ⌜ 0 < rule ⌝ }
     ensures { λ r. ⌜ inner.chargeOf r ≡ lowest (charge broken rule term) ⌝ }
 {

@@ -11,7 +11,7 @@ use super::Receipt;
 use super::Tenure;
 
 // Whether (t, i) is staler than (u, j): term compared first, then index.
-pub fn end_staler(t: u32, i: u32, u: u32, j: u32) -> bool
+pub fn end_staler(t: u64, i: u64, u: u64, j: u64) -> bool
     ensures { λ r. ⌜ r ≡ ends.staler t i u j ⌝ }
 {
     if t == u {
@@ -46,7 +46,7 @@ pub fn two_candidates(k: usize, x: Tenure, y: Tenure) -> bool
 }
 
 // Whether replica k is the candidate x of term a and the candidate y of term b, and the terms are one.
-fn both_stamped(k: usize, x: u16, y: u16, a: u32, b: u32) -> bool
+fn both_stamped(k: usize, x: u16, y: u16, a: u64, b: u64) -> bool
     ensures { λ r. ⌜ r ≡ all (eqb x k ∷ eqb y k ∷ eqb a b ∷ []) ⌝ }
 {
     if x as usize != k {
@@ -92,5 +92,10 @@ pub fn receipt_forgotten(k: usize, given: Receipt, y: Tenure) -> bool
     if y.term <= given.term {
         return false;
     }
-    end_staler(y.last_term, y.last_index, given.term, given.index)
+    end_staler(
+        y.last_term,
+        y.last_index as u64,
+        given.term,
+        given.index as u64,
+    )
 }

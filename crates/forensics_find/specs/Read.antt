@@ -11,11 +11,11 @@ use Rattle.forensics_charges.specs.Charges.{receipts, ruledBy, rowsBy, forkOf}
 use Rattle.forensics_find.specs.Tenures.{tenuresOf}
 
 -- what two submissions show, from the terms that are read
-unfoldable pub read : ℕ → List ℕ → List ℕ → forensics.Findings
-read S a b =
-    let v = view 4 S a in
-    let w = view 4 S b in
-    let difference = differAt 1 (v .log) (w .log) in
+unfoldable pub read : ℕ → ℕ → List ℕ → List ℕ → forensics.Findings
+read w S a b =
+    let x = view w S a in
+    let y = view w S b in
+    let difference = differAt 1 (x .log) (y .log) in
     let row : ℕ → Option Charge =
-    λ k. forensics.lowest (ruledBy k difference (tenuresOf S a) (tenuresOf S b) (receipts v) (receipts w)) in
-    record { fork = forkOf difference (receipts v) (receipts w); rows = rowsBy row forensics.rowCount 1 }
+    λ k. forensics.lowest (ruledBy k difference (tenuresOf w S a) (tenuresOf w S b) (receipts x) (receipts y)) in
+    record { fork = forkOf difference (receipts x) (receipts y); rows = rowsBy row forensics.rowCount 1 }

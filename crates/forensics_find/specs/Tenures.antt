@@ -7,34 +7,34 @@ use Rattle.submission.specs.Trailer.{recordCount, leaderCount}
 use Rattle.submission.specs.Reading.{ballotSize, ballotAt, signersAt, certificateEnd, leadersFrom}
 use Rattle.forensics_charges.specs.declared.Tenure.{Tenure}
 
-module _ (s : List ℕ) where
+module _ (w : ℕ) (s : List ℕ) where
   -- the last record of the term before a place, with so many certificates from there on
   unfoldable pub endAt : ℕ → ℕ → ℕ
   endAt zero next = recordCount s
-  endAt (suc later) next = ballotAt 4 s next .lastIndex
+  endAt (suc later) next = ballotAt w s next .lastIndex
 
   -- the tenure of the certificate at a place that ends at another, with so many after it
   unfoldable pub tenureAt : ℕ → ℕ → ℕ → Tenure
   tenureAt later at next =
-      let b = ballotAt 4 s at in
+      let b = ballotAt w s at in
       record {
         candidate = b .candidate;
         term = b .term;
         «last_term» = b .lastTerm;
         «last_index» = b .lastIndex;
-        signers = signersAt s (at + ballotSize 4);
+        signers = signersAt s (at + ballotSize w);
         end = endAt later next;
       }
 
 -- S is the bytes of a signature
-module _ (S : ℕ) (s : List ℕ) where
+module _ (w S : ℕ) (s : List ℕ) where
   -- those of so many certificates from a place on
   unfoldable pub tenuresAt : ℕ → ℕ → List Tenure
   tenuresAt zero at = []
   tenuresAt (suc later) at =
-      let next = certificateEnd 4 S s at in
-      tenureAt s later at next ∷ tenuresAt later next
+      let next = certificateEnd w S s at in
+      tenureAt w s later at next ∷ tenuresAt later next
 
   -- all of them
   unfoldable pub tenuresOf : List Tenure
-  tenuresOf = tenuresAt (leaderCount s) (leadersFrom 4 S s)
+  tenuresOf = tenuresAt (leaderCount s) (leadersFrom w S s)

@@ -1,4 +1,5 @@
-// The fork index and the rows of two accepted submissions (document 01, "The report").
+// The fork index and the rows of two accepted submissions (document 01, "The report"). The term's width is fixed
+// here, by the version, and free below.
 ghost use mathlib.Core.Path.{_≡_};
 ghost use mathlib.Core.Bool.{true};
 ghost use lib.ListN.{length};
@@ -29,24 +30,25 @@ fn fork(difference: usize, first: Receipt, second: Receipt) -> u32
 }
 
 // The fork index and the rows of two laid-out submissions.
-fn found(a: &[u8], b: &[u8], size: usize) -> Findings
-    requires { ⌜ Bounds size (now a) × (laidOut 4 size (now a) ≡ true)
-        × (within (view 4 size (now a) .commit) (length (view 4 size (now a) .log)) ≡ true)
-        × Bounds size (now b) × (laidOut 4 size (now b) ≡ true)
-        × (within (view 4 size (now b) .commit) (length (view 4 size (now b) .log)) ≡ true) ⌝ }
-    ensures { λ r. ⌜ inner.findingsOf r ≡ read size (now (a .entry)) (now (b .entry)) ⌝ }
+fn found(a: &[u8], b: &[u8], width: usize, size: usize) -> Findings
+    requires { ⌜ Bounds width size (now a) × (laidOut width size (now a) ≡ true)
+        × (within (view width size (now a) .commit) (length (view width size (now a) .log)) ≡ true)
+        × Bounds width size (now b) × (laidOut width size (now b) ≡ true)
+        × (within (view width size (now b) .commit) (length (view width size (now b) .log)) ≡ true) ⌝ }
+    ensures { λ r. ⌜ inner.findingsOf r ≡ read width size (now (a .entry)) (now (b .entry)) ⌝ }
 {
     let difference = log_difference::difference(
         a,
         b,
+        width,
         submission_trailer::record_count(a),
         submission_trailer::record_count(b),
     );
-    let first = tenures::receipts_of(a, size);
-    let second = tenures::receipts_of(b, size);
+    let first = tenures::receipts_of(a, width, size);
+    let second = tenures::receipts_of(b, width, size);
     Findings {
         fork: fork(difference, first, second),
-        rows: rows::rows(difference, a, b, first, second, size),
+        rows: rows::rows(difference, a, b, first, second, width, size),
     }
 }
 
@@ -58,5 +60,6 @@ pub fn find(roster: &[u8], a: &[u8], b: &[u8]) -> Findings
         ≡ forensics.findings (signatureSize (now (roster .entry))) (viewOf (now (roster .entry))
         (now (a .entry))) (viewOf (now (roster .entry)) (now (b .entry))) ⌝ }
 {
-    found(a, b, roster::signature_size(roster))
+    let size = roster::signature_size(roster);
+    found(a, b, submission_trailer::TERM_SIZE, size)
 }

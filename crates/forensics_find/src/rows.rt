@@ -1,5 +1,5 @@
 // A replica's row: the lowest of what the four rules charge it with, from two submissions (document 01, "The
-// report").
+// report"), over the term's width.
 ghost use mathlib.Core.Path.{_≡_};
 ghost use mathlib.Core.Bool.{true};
 ghost use mathlib.Core.List.{map, flatMap};
@@ -15,17 +15,17 @@ use forensics_charges::Row;
 use forensics_charges::Tenure;
 
 // The row of replica k from a term of the first submission and those of the second: rules 1 and 2.
-fn against(k: usize, difference: usize, x: Tenure, s: &[u8], size: usize) -> Row
-    requires { ⌜ (0 < k) × Bounds size (now s) × (laidOut 4 size (now s) ≡ true) ⌝ }
+fn against(k: usize, difference: usize, x: Tenure, s: &[u8], width: usize, size: usize) -> Row
+    requires { ⌜ (0 < k) × Bounds width size (now s) × (laidOut width size (now s) ≡ true) ⌝ }
     ensures { λ r. ⌜ inner.chargeOf r
-        ≡ lowest (flatMap (inner.between k difference x) (tenuresOf size (now (s .entry)))) ⌝ }
+        ≡ lowest (flatMap (inner.between k difference x) (tenuresOf width size (now (s .entry)))) ⌝ }
 {
     let mut best = forensics_charges::unnamed_row();
     let mut left = submission_trailer::leader_count(s);
-    let mut at = submission_parts::layout::leaders_from(s);
+    let mut at = submission_parts::layout::leaders_from(s, width);
     while 0 < left {
-        let next = submission_parts::certificate_end(s, at, size);
-        let y = tenures::tenure_at(s, left - 1, at, next);
+        let next = submission_parts::certificate_end(s, at, width, size);
+        let y = tenures::tenure_at(s, width, left - 1, at, next);
         best = forensics_charges::lower_row(best, forensics_charges::between(k, difference, x, y));
         at = next;
         left -= 1;
@@ -34,20 +34,20 @@ fn against(k: usize, difference: usize, x: Tenure, s: &[u8], size: usize) -> Row
 }
 
 // The row of replica k from the terms of two submissions: rules 1 and 2.
-fn among_terms(k: usize, difference: usize, a: &[u8], b: &[u8], size: usize) -> Row
-    requires { ⌜ (0 < k) × Bounds size (now a) × (laidOut 4 size (now a) ≡ true) × Bounds size (now b)
-        × (laidOut 4 size (now b) ≡ true) ⌝ }
+fn among_terms(k: usize, difference: usize, a: &[u8], b: &[u8], width: usize, size: usize) -> Row
+    requires { ⌜ (0 < k) × Bounds width size (now a) × (laidOut width size (now a) ≡ true) × Bounds width size (now b)
+        × (laidOut width size (now b) ≡ true) ⌝ }
     ensures { λ r. ⌜ inner.chargeOf r
-        ≡ lowest (inner.amongTerms k difference (tenuresOf size (now (a .entry))) (tenuresOf size
+        ≡ lowest (inner.amongTerms k difference (tenuresOf width size (now (a .entry))) (tenuresOf width size
         (now (b .entry)))) ⌝ }
 {
     let mut best = forensics_charges::unnamed_row();
     let mut left = submission_trailer::leader_count(a);
-    let mut at = submission_parts::layout::leaders_from(a);
+    let mut at = submission_parts::layout::leaders_from(a, width);
     while 0 < left {
-        let next = submission_parts::certificate_end(a, at, size);
-        let x = tenures::tenure_at(a, left - 1, at, next);
-        best = forensics_charges::lower_row(best, against(k, difference, x, b, size));
+        let next = submission_parts::certificate_end(a, at, width, size);
+        let x = tenures::tenure_at(a, width, left - 1, at, next);
+        best = forensics_charges::lower_row(best, against(k, difference, x, b, width, size));
         at = next;
         left -= 1;
     }
@@ -57,17 +57,17 @@ fn among_terms(k: usize, difference: usize, a: &[u8], b: &[u8], size: usize) -> 
 // The row of replica k from the receipts of the one and the terms of the other: rule 3 or 4. The loop is that
 // of `against`: one over both kinds of charge would need an enum of them, with its own contract, and a match
 // in each turn.
-fn after_receipts(k: usize, rule: u8, given: Receipt, s: &[u8], size: usize) -> Row
-    requires { ⌜ (0 < k) × (0 < rule) × Bounds size (now s) × (laidOut 4 size (now s) ≡ true) ⌝ }
+fn after_receipts(k: usize, rule: u8, given: Receipt, s: &[u8], width: usize, size: usize) -> Row
+    requires { ⌜ (0 < k) × (0 < rule) × Bounds width size (now s) × (laidOut width size (now s) ≡ true) ⌝ }
     ensures { λ r. ⌜ inner.chargeOf r
-        ≡ lowest (inner.afterReceipts k rule given (tenuresOf size (now (s .entry)))) ⌝ }
+        ≡ lowest (inner.afterReceipts k rule given (tenuresOf width size (now (s .entry)))) ⌝ }
 {
     let mut best = forensics_charges::unnamed_row();
     let mut left = submission_trailer::leader_count(s);
-    let mut at = submission_parts::layout::leaders_from(s);
+    let mut at = submission_parts::layout::leaders_from(s, width);
     while 0 < left {
-        let next = submission_parts::certificate_end(s, at, size);
-        let y = tenures::tenure_at(s, left - 1, at, next);
+        let next = submission_parts::certificate_end(s, at, width, size);
+        let y = tenures::tenure_at(s, width, left - 1, at, next);
         best = forensics_charges::lower_row(
             best,
             forensics_charges::after_receipt(k, rule, given, y),
@@ -86,17 +86,18 @@ fn row(
     b: &[u8],
     first: Receipt,
     second: Receipt,
+    width: usize,
     size: usize,
 ) -> Row
-    requires { ⌜ (0 < k) × Bounds size (now a) × (laidOut 4 size (now a) ≡ true) × Bounds size (now b)
-        × (laidOut 4 size (now b) ≡ true) ⌝ }
+    requires { ⌜ (0 < k) × Bounds width size (now a) × (laidOut width size (now a) ≡ true) × Bounds width size (now b)
+        × (laidOut width size (now b) ≡ true) ⌝ }
     ensures { λ r. ⌜ inner.chargeOf r
-        ≡ lowest (inner.ruledBy k difference (tenuresOf size (now (a .entry))) (tenuresOf size
+        ≡ lowest (inner.ruledBy k difference (tenuresOf width size (now (a .entry))) (tenuresOf width size
         (now (b .entry))) first second) ⌝ }
 {
-    let terms = among_terms(k, difference, a, b, size);
-    let third = after_receipts(k, 3, first, b, size);
-    let fourth = after_receipts(k, 4, second, a, size);
+    let terms = among_terms(k, difference, a, b, width, size);
+    let third = after_receipts(k, 3, first, b, width, size);
+    let fourth = after_receipts(k, 4, second, a, width, size);
     forensics_charges::lower_row(forensics_charges::lower_row(terms, third), fourth)
 }
 
@@ -107,18 +108,19 @@ pub fn rows(
     b: &[u8],
     first: Receipt,
     second: Receipt,
+    width: usize,
     size: usize,
 ) -> [Row; forensics::ROW_COUNT]
-    requires { ⌜ Bounds size (now a) × (laidOut 4 size (now a) ≡ true) × Bounds size (now b)
-        × (laidOut 4 size (now b) ≡ true) ⌝ }
+    requires { ⌜ Bounds width size (now a) × (laidOut width size (now a) ≡ true) × Bounds width size (now b)
+        × (laidOut width size (now b) ≡ true) ⌝ }
     ensures { λ r. ⌜ map inner.chargeOf r
-        ≡ inner.rowsBy (λ k. lowest (inner.ruledBy k difference (tenuresOf size (now (a .entry)))
-        (tenuresOf size (now (b .entry))) first second)) 9 1 ⌝ }
+        ≡ inner.rowsBy (λ k. lowest (inner.ruledBy k difference (tenuresOf width size (now (a .entry)))
+        (tenuresOf width size (now (b .entry))) first second)) 9 1 ⌝ }
 {
     let mut out = [Row { rule: 0, term: 0 }; forensics::ROW_COUNT];
     let mut i = 0;
     while i < forensics::ROW_COUNT {
-        out[i] = row(i + 1, difference, a, b, first, second, size);
+        out[i] = row(i + 1, difference, a, b, first, second, width, size);
         i += 1;
     }
     out

@@ -1,5 +1,5 @@
--- The pointer of a log with one record more, from the log's pointer, by induction over the log; and a pointer does not depend on the
--- cluster's name, which no chain string has.
+-- The pointer of a log with one record more, from the log's pointer, by induction over the log; and of a form a pointer has the
+-- term's width alone: no chain string has kind or cluster name.
 -- Assumes nothing.
 use mathlib.Core.Path.{_≡_, refl}
 use mathlib.Core.List.{List, [], _∷_, _++_}
@@ -7,7 +7,7 @@ use Prim.Native.Nat.{ℕ, suc, _+_}
 use native.Mathlib.Nat.{add-zero, add-suc, suc-add, zero-add}
 use lib.ListN.{length, replicate}
 use Rattle.sha256.specs.Sha256.{sha256}
-use Rattle.log_chain.specs.Log.{Form, version1, Record, chainString, pointerFrom, pointer}
+use Rattle.log_chain.specs.Log.{Form, Record, chainString, pointerFrom, pointer}
 
 -- ---- one record more
 
@@ -22,13 +22,18 @@ pub pointer-snoc : (form : Form) (l : List Record) (r : Record)
 unfolding pointer
 pointer-snoc form l r = rw zero-add at (snoc-from form 0 (replicate 32 0) l r)
 
--- ---- the cluster's name
+-- ---- the form
 
-name-from : (a b : List ℕ) (i : ℕ) (p : List ℕ) (l : List Record) → pointerFrom (version1 a) i p l ≡ pointerFrom (version1 b) i p l
-unfolding pointerFrom chainString version1
-name-from a b i p [] = refl
-name-from a b i p (r ∷ l) = name-from a b (suc i) (sha256 (chainString (version1 b) (suc i) r p)) l
+string-form : (f g : Form) → f .termBytes ≡ g .termBytes → (i : ℕ) (r : Record) (p : List ℕ) → chainString f i r p ≡ chainString g i r p
+unfolding chainString
+string-form f g e i r p = rw e
 
-pub pointer-name : (a b : List ℕ) (l : List Record) → pointer (version1 a) l ≡ pointer (version1 b) l
+form-from : (f g : Form) → f .termBytes ≡ g .termBytes → (i : ℕ) (p : List ℕ) (l : List Record) → pointerFrom f i p l ≡ pointerFrom g i p l
+unfolding pointerFrom
+form-from f g e i p [] = refl
+form-from f g e i p (r ∷ l) =
+    rw (string-form f g e (suc i) r p) (form-from f g e (suc i) (sha256 (chainString g (suc i) r p)) l)
+
+pub pointer-form : (f g : Form) → f .termBytes ≡ g .termBytes → (l : List Record) → pointer f l ≡ pointer g l
 unfolding pointer
-pointer-name a b l = name-from a b 0 (replicate 32 0) l
+pointer-form f g e l = form-from f g e 0 (replicate 32 0) l

@@ -1,7 +1,7 @@
 pub mod Log
 pub mod Claim
 pub mod Apart
-pub mod Widths
+pub mod Sizes
 pub mod Records
 pub mod Runs
 pub mod Ends

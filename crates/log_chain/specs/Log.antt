@@ -12,9 +12,13 @@ pub record Form : Type 0 where
   pub firstKind : ℕ
   pub cluster : List ℕ
 
--- version 1: terms of 4 bytes, kinds 1 to 3
+-- terms of w bytes, kinds 1 to 3
+abbrev pub withTerms : ℕ → List ℕ → Form
+withTerms w cluster = record { termBytes = w; firstKind = 1; cluster = cluster }
+
+-- version 1: terms of 4 bytes
 unfoldable pub version1 : List ℕ → Form
-version1 cluster = record { termBytes = 4; firstKind = 1; cluster = cluster }
+version1 cluster = withTerms 4 cluster
 
 -- document 01's record: its term, and its payload's digest
 pub record Record : Type 0 where

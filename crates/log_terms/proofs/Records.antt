@@ -4,7 +4,7 @@
 use mathlib.Core.Path.{_≡_, refl}
 use mathlib.Core.List.{List, [], _∷_, _++_}
 use Prim.Native.Nat.{ℕ, zero, suc, _+_, _-_, _*_, _≤_, _<_}
-use native.Mathlib.Nat.{mul-zero, mul-suc, add-comm}
+use native.Mathlib.Nat.{mul-zero, mul-suc, mul-le-mul-left, add-comm}
 use native.Mathlib.Omega.{arith}
 use lib.ListN.{length, take, drop, length-drop}
 use lib.Seq.{drop-drop, take-add, length-take-le}
@@ -23,6 +23,13 @@ unfoldable pub recordAt : ℕ → List ℕ → ℕ → Record
 recordAt w s i =
     let bytes = drop (recordSize w * i) s in
     record { term = number (take w bytes); digest = take 32 (drop w bytes) }
+
+-- the next record follows this one, and lies among more of them
+pub record-next : (w i : ℕ) → recordSize w * suc i ≡ recordSize w * i + recordSize w
+record-next w i = mul-suc (recordSize w) i
+
+pub record-inside : (w i count : ℕ) → i < count → recordSize w * i + recordSize w ≤ recordSize w * count
+record-inside w i count h = rw (← record-next w i) (mul-le-mul-left (recordSize w) h)
 
 record-later : (w i : ℕ) (s : List ℕ) → recordAt w (drop (recordSize w) s) i ≡ recordAt w s (suc i)
 unfolding recordAt

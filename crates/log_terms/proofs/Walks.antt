@@ -20,9 +20,9 @@ use Rattle.log_terms.proofs.Records.{recordAt, records-snoc, after-firs
 use Rattle.log_chain.proofs.Runs.{run-goes, run-ends, run-last}
 
 -- where a record's term stands
-pub record-term : (s : List ℕ) (i : ℕ) → numberAt 4 s (36 * i) ≡ recordAt 4 s i .term
-unfolding recordAt recordSize numberAt
-record-term s i = refl
+pub record-term : (w : ℕ) (s : List ℕ) (i : ℕ) → numberAt w s (recordSize w * i) ≡ recordAt w s i .term
+unfolding recordAt numberAt
+record-term w s i = refl
 
 -- ---- from term to term
 

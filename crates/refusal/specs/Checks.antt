@@ -3,6 +3,7 @@
 use mathlib.Core.Bool.{Bool, true, false, cond}
 use mathlib.Core.List.{List, [], _∷_}
 use Prim.Native.Nat.{ℕ}
+use lib.Dec.{eqb}
 
 -- all of them hold
 unfoldable pub all : List Bool → Bool
@@ -26,3 +27,7 @@ check number met = record { number = number; met = met }
 unfoldable pub refusal : List Check → ℕ
 refusal [] = 0
 refusal (c ∷ cs) = cond (c .met) (refusal cs) (c .number)
+
+-- numbers in order: the first that is not 0
+unfoldable pub first : ℕ → ℕ → ℕ
+first a b = cond (eqb a 0) b a

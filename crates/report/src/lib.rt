@@ -15,7 +15,9 @@ pub const MASK_AT: usize = 6;
 
 pub const ROWS_AT: usize = 8;
 
-// The bytes of a row, and where its term stands, after the rule.
-pub const ROW_SIZE: usize = 5;
-
+// Where a row's term stands, after the rule; its bytes, and those of the row.
 pub const ROW_TERM_AT: usize = 1;
+
+pub const ROW_TERM_SIZE: usize = 4;
+
+pub const ROW_SIZE: usize = ROW_TERM_AT + ROW_TERM_SIZE;

@@ -11,12 +11,13 @@ ghost use Rattle.report.specs.Places.{rowsPlace, rowSize};
 use forensics_charges::Row;
 use report::ROW_SIZE;
 use report::ROW_TERM_AT;
+use report::ROW_TERM_SIZE;
 use report::ROWS_AT;
 
 pub mod mask;
 
 // The term that is written of a row: 0 if its replica is not named.
-fn term_of(row: Row) -> u32
+fn term_of(row: Row) -> u64
     ensures { λ r. ⌜ be 1 (row .rule) ++ be 4 r ≡ rowBytes (chargeOf row) ⌝ }
 {
     if row.rule == 0 { 0 } else { row.term }
@@ -28,7 +29,7 @@ fn put_row(out: &mut [u8], at: usize, row: Row)
     ensures { λ _. ⌜ now (out .exit) ≡ sets (now (out .entry)) at (rowBytes (chargeOf row)) ⌝ }
 {
     words::put_u8(out, at, row.rule as u32);
-    words::put_u32(out, at + ROW_TERM_AT, term_of(row));
+    words::put_number(out, at + ROW_TERM_AT, ROW_TERM_SIZE, term_of(row));
 }
 
 // Writes nine rows, one after the other.

@@ -2,3 +2,4 @@ pub mod Trailer
 pub mod View
 pub mod Reading
 pub mod Validate
+pub mod Sizes

@@ -1,25 +1,33 @@
 // A submission, read from its trailer, and its checks (document 01, "A submission, read from its trailer" and
-// "What stops an audit", numbers 5 to 15): definitions and laws, and the widths and places of its parts in
-// version 1, with terms of 4 bytes.
+// "What stops an audit", numbers 5 to 15): definitions and laws, and the places of the fields of its
+// certificates, over the term's width.
+ghost use mathlib.Core.Path.{_≡_};
+ghost use Prim.Native.Nat.{_≤_};
+ghost use Rattle.words.specs.Widths.{widthMost};
+ghost use Rattle.submission.specs.Reading.{ballotSize};
+ghost use Rattle.submission.specs.Sizes.{ballotMost};
 
-// The bytes of a record: term and payload digest.
-pub const RECORD_SIZE: usize = log_chain::RECORD_SIZE;
-
-// The bytes of a vote's fields, and of the signers after them.
-pub const BALLOT_SIZE: usize = log_chain::BALLOT_SIZE;
-
-pub const SIGNERS_SIZE: usize = 2;
-
-// Where term, last term, last index and last pointer stand among a vote's fields.
+// Where a term stands among a vote's fields, after the candidate; last term, last index and last pointer
+// follow it.
 pub const TERM_AT: usize = 2;
 
-pub const LAST_TERM_AT: usize = 6;
+// The bytes of the signers, after a vote's fields.
+pub const SIGNERS_SIZE: usize = 2;
 
-pub const LAST_INDEX_AT: usize = 10;
-
-pub const LAST_POINTER_AT: usize = 14;
+// The most bytes of a statement: kind, cluster name, and a vote's fields with terms of eight bytes.
+pub const STATEMENT_MOST: usize =
+    log_chain::NAME_AT + roster::NAME_SIZE + TERM_AT + 2 * words::WIDTH_MOST + log_chain::INDEX_SIZE
+    + log_chain::POINTER_SIZE;
 
 // Where the signers of a commit certificate stand, and the bytes before its signatures.
 pub const COMMIT_SIGNERS_AT: usize = 4;
 
 pub const COMMIT_FIELDS_SIZE: usize = 6;
+
+// The bytes of a vote's fields: candidate, term, last term, last index, last pointer.
+pub fn ballot_size(width: usize) -> usize
+    requires { ⌜ width ≤ widthMost ⌝ }
+    ensures { λ r. ⌜ (r ≡ ballotSize width) × (r ≤ ballotMost) ⌝ }
+{
+    TERM_AT + width + width + log_chain::INDEX_SIZE + log_chain::POINTER_SIZE
+}

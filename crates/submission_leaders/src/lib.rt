@@ -1,12 +1,13 @@
-// The leader certificates against the terms of the log (document 01, "What stops an audit", 13), for version
-// 1: terms of 4 bytes.
+// The leader certificates against the terms of the log (document 01, "What stops an audit", 13), over the
+// term's width. A pointer has no cluster name in it: that of the form is empty, or any, here.
 ghost use mathlib.Core.Path.{_≡_};
 ghost use mathlib.Core.List.{List, []};
 ghost use Prim.Native.Nat.{ℕ, _+_, _*_, _≤_};
 ghost use lib.ListN.{length};
 ghost use Rattle.sha256.specs.Sha256.{bytesOf};
+ghost use Rattle.words.specs.Widths.{widthMost};
 ghost use Rattle.refusal.specs.Checks.{every};
-ghost use Rattle.log_chain.specs.Log.{version1, pointer};
+ghost use Rattle.log_chain.specs.Log.{withTerms, pointer};
 ghost use Rattle.log_chain.specs.Runs.{run, runs};
 ghost use Rattle.submission.specs.View.{leadsOf};
 ghost use Rattle.log_chain.specs.Records.{recordSize, recordsOf};
@@ -15,34 +16,33 @@ ghost use Rattle.submission.specs.Reading.{certificateAt, certificates, certifi
 ghost use Rattle.submission_leaders.specs.Leads as parts;
 ghost use Rattle.submission.specs.Validate as paper;
 use sha256::State;
-use submission::BALLOT_SIZE;
-use submission::LAST_INDEX_AT;
-use submission::LAST_POINTER_AT;
-use submission::LAST_TERM_AT;
 use submission::TERM_AT;
 
 // Whether the last term, index and pointer of the certificate at a place are those of the first i records.
-fn follows(s: &[u8], at: usize, i: usize, before: State) -> bool
-    requires { ⌜ (at + ballotSize 4 ≤ length (now s)) × (recordSize 4 * i ≤ length (now s)) ⌝ }
-    ensures { λ r. ⌜ r ≡ parts.follows (ballotAt 4 (now (s .entry)) at) (recordsOf 4 i (now (s .entry)))
-        (bytesOf before) ⌝ }
+fn follows(s: &[u8], width: usize, at: usize, i: usize, before: State) -> bool
+    requires { ⌜ (width ≤ widthMost) × (at + ballotSize width ≤ length (now s))
+        × (recordSize width * i ≤ length (now s)) ⌝ }
+    ensures { λ r. ⌜ r ≡ parts.follows (ballotAt width (now (s .entry)) at) (recordsOf width i
+        (now (s .entry))) (bytesOf before) ⌝ }
 {
-    if words::u32_at(s, at + LAST_TERM_AT) != log_terms::last_term(s, i) {
+    let last_term = at + TERM_AT + width;
+    if words::number_at(s, last_term, width) != log_terms::last_term(s, width, i) {
         return false;
     }
-    if words::u32_at(s, at + LAST_INDEX_AT) as usize != i {
+    let last_index = last_term + width;
+    if words::u32_at(s, last_index) as usize != i {
         return false;
     }
-    let start = at + LAST_POINTER_AT;
-    let end = at + BALLOT_SIZE;
+    let start = last_index + log_chain::INDEX_SIZE;
+    let end = start + log_chain::POINTER_SIZE;
     let pointer = before.bytes();
     check::same(&s[start..end], &pointer)
 }
 
 // Whether its candidate is 1 to n and one of its signers.
-fn elected(s: &[u8], at: usize, n: usize) -> bool
-    requires { ⌜ at + ballotSize 4 + 2 ≤ length (now s) ⌝ }
-    ensures { λ r. ⌜ r ≡ parts.elected n (signersAt (now (s .entry)) (at + ballotSize 4)) (ballotAt 4
+fn elected(s: &[u8], width: usize, at: usize, n: usize) -> bool
+    requires { ⌜ (width ≤ widthMost) × (at + ballotSize width + 2 ≤ length (now s)) ⌝ }
+    ensures { λ r. ⌜ r ≡ parts.elected n (signersAt (now (s .entry)) (at + ballotSize width)) (ballotAt width
         (now (s .entry)) at .candidate) ⌝ }
 {
     let candidate = words::u16_at(s, at) as usize;
@@ -52,58 +52,68 @@ fn elected(s: &[u8], at: usize, n: usize) -> bool
     if n < candidate {
         return false;
     }
-    roster::signer(words::u16_at(s, at + BALLOT_SIZE), candidate)
+    roster::signer(words::u16_at(s, at + submission::ballot_size(width)), candidate)
 }
 
 // Whether the certificate at a place is that of the term after record i, which ends with record `end`.
-fn leading(s: &[u8], n: usize, at: usize, i: usize, end: usize, before: State) -> bool
-    requires { ⌜ (at + ballotSize 4 + 2 ≤ length (now s)) × (recordSize 4 * i ≤ length (now s))
-        × (recordSize 4 * end ≤ length (now s))
-        × (bytesOf before ≡ pointer (version1 []) (recordsOf 4 i (now s))) ⌝ }
+fn leading(
+    s: &[u8],
+    n: usize,
+    width: usize,
+    at: usize,
+    i: usize,
+    end: usize,
+    before: State,
+) -> bool
+    requires { ⌜ (width ≤ widthMost) × (at + ballotSize width + 2 ≤ length (now s))
+        × (recordSize width * i ≤ length (now s)) × (recordSize width * end ≤ length (now s))
+        × (bytesOf before ≡ pointer (withTerms width []) (recordsOf width i (now s))) ⌝ }
     ensures { λ r. ⌜ ((name stamp : List ℕ)
-        → r ≡ paper.leading (version1 name) n (record {
-          certificate = certificateAt 4
+        → r ≡ paper.leading (withTerms width name) n (record {
+          certificate = certificateAt width
               (now (s .entry)) at;
-          term = run (recordsOf 4 i (now (s .entry))) (recordsOf 4 end
+          term = run (recordsOf width i (now (s .entry))) (recordsOf width end
               (now (s .entry)));
           stamp = stamp;
         })) ⌝ }
 {
-    if words::u32_at(s, at + TERM_AT) != log_terms::last_term(s, end) {
+    if words::number_at(s, at + TERM_AT, width) != log_terms::last_term(s, width, end) {
         return false;
     }
-    if !follows(s, at, i, before) {
+    if !follows(s, width, at, i, before) {
         return false;
     }
-    elected(s, at, n)
+    elected(s, width, at, n)
 }
 
 // 13: whether each certificate is that of its term.
 pub fn leaders_match_log(
     s: &[u8],
     n: usize,
+    width: usize,
     size: usize,
     records: usize,
     leaders: usize,
     at: usize,
 ) -> bool
-    requires { ⌜ (records ≤ paper.recordMost) × (recordSize 4 * records ≤ length (now s))
-        × (leaders ≡ length (runs (recordsOf 4 records (now s))))
-        × (certificatesEnd 4 size (now s) leaders at ≤ length (now s)) ⌝ }
+    requires { ⌜ (width ≤ widthMost) × (records ≤ paper.recordMost)
+        × (recordSize width * records ≤ length (now s))
+        × (leaders ≡ length (runs (recordsOf width records (now s))))
+        × (certificatesEnd width size (now s) leaders at ≤ length (now s)) ⌝ }
     ensures { λ r. ⌜ ((name : List ℕ) (stamps : List (List ℕ)) → length stamps ≡ leaders
-        → r ≡ every (paper.leading (version1 name) n) (leadsOf (certificates 4 size
-        (now (s .entry)) leaders at) (runs (recordsOf 4 records (now (s .entry)))) stamps)) ⌝ }
+        → r ≡ every (paper.leading (withTerms width name) n) (leadsOf (certificates width size
+        (now (s .entry)) leaders at) (runs (recordsOf width records (now (s .entry)))) stamps)) ⌝ }
 {
     let mut left = leaders;
     let mut place = at;
     let mut i = 0;
     let mut before = log_terms::pointers::pointer_zero();
     while 0 < left {
-        let walked = log_terms::pointers::next_run(s, records, i, before);
-        if !leading(s, n, place, i, walked.end, before) {
+        let walked = log_terms::pointers::next_run(s, width, records, i, before);
+        if !leading(s, n, width, place, i, walked.end, before) {
             return false;
         }
-        place = submission_parts::certificate_end(s, place, size);
+        place = submission_parts::certificate_end(s, place, width, size);
         i = walked.end;
         before = walked.pointer;
         left -= 1;

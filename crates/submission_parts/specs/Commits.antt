@@ -10,7 +10,7 @@ use Rattle.submission_parts.specs.declared.CommitPart.{CommitPart}
 use Rattle.submission_parts.specs.declared.CommitPart.the-variants.{Found, Absent}
 
 -- the numbers and the place of the commit certificate, where there is one
-unfoldable pub commitPart : ℕ → List ℕ → CommitPart
-commitPart S s =
-    let at = commitFrom 4 S s in
+unfoldable pub commitPart : ℕ → ℕ → List ℕ → CommitPart
+commitPart w S s =
+    let at = commitFrom w S s in
     cond (eqb (distance s 4) 0) Absent (Found (commitNumbersAt s at) at)

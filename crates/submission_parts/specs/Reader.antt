@@ -20,23 +20,23 @@ use Rattle.submission.specs.Reading.{ballotSize, ballotAt, signersAt, certifica
 use Rattle.submission.specs.Reading.{commitAt, commitEnd}
 
 -- the bytes of a leader certificate before its signatures
-abbrev pub fieldsSize : ℕ
-fieldsSize = 48
+abbrev pub fieldsSize : ℕ → ℕ
+fieldsSize w = ballotSize w + 2
 
 -- where the last pointer stands among a vote's fields, after the last index
-abbrev pub lastPointerPlace : ℕ
-lastPointerPlace = 14
+abbrev pub lastPointerPlace : ℕ → ℕ
+lastPointerPlace w = 2 + w + w + 4
 
 -- the numbers of the certificate at a place
-unfoldable pub numbersAt : List ℕ → ℕ → Certificate
-numbersAt s at =
-    let b = ballotAt 4 s at in
+unfoldable pub numbersAt : ℕ → List ℕ → ℕ → Certificate
+numbersAt w s at =
+    let b = ballotAt w s at in
     record {
       candidate = b .candidate;
       term = b .term;
       «last_term» = b .lastTerm;
       «last_index» = b .lastIndex;
-      signers = signersAt s (at + ballotSize 4);
+      signers = signersAt s (at + ballotSize w);
     }
 
 unfoldable pub commitNumbersAt : List ℕ → ℕ → Commit
@@ -60,17 +60,18 @@ commitReadingNumber NoCommit = 9
 unfoldable pub endNumber : ℕ → ℕ → ℕ
 endNumber place end = refusal (check 9 (leb place end) ∷ [])
 
-module _ (S : ℕ) (s : List ℕ) where
+module _ (w S : ℕ) (s : List ℕ) where
   -- the leader certificate at a place
   unfoldable pub reading : ℕ → ℕ → Reading
   reading at end =
-      let next = certificateEnd 4 S s at in
-      cond (leb next end) (Read (numbersAt s at) next) Refused
+      let next = certificateEnd w S s at in
+      cond (leb next end) (Read (numbersAt w s at) next) Refused
 
   -- so many leader certificates, one after the other
   unfoldable pub placeAfter : ℕ → ℕ → ℕ → Place
-  placeAfter count at end = let next = certificatesEnd 4 S s count at in cond (leb next end) (At next) Beyond
+  placeAfter count at end = let next = certificatesEnd w S s count at in cond (leb next end) (At next) Beyond
 
+module _ (S : ℕ) (s : List ℕ) where
   -- the commit certificate at a place
   unfoldable pub commitReading : ℕ → ℕ → CommitReading
   commitReading at end =

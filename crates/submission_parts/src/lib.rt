@@ -1,21 +1,20 @@
 // The parts of a submission (document 01, "A submission, read from its trailer"; "What stops an audit", 9):
 // the readers of certificates, which give the fields with the next place, or a refusal where the certificate
-// does not lie before an end; the commit certificate, or none; and, in `layout`, where the parts stand.
+// does not lie before an end; the commit certificate, or none; and, in `layout`, where the parts stand. Over
+// the term's width.
 ghost use mathlib.Core.Path.{_≡_};
 ghost use mathlib.Core.Bool.{true};
 ghost use Prim.Native.Nat.{_+_, _*_, _≤_};
 ghost use lib.Count.{ones};
 ghost use lib.ListN.{length};
+ghost use Rattle.words.specs.Widths.{widthMost};
 ghost use Rattle.submission.specs.Reading.{certificateEnd, certificatesEnd, commitEnd, laidOut};
 ghost use Rattle.submission.specs.Validate.{submissionMost};
 ghost use Rattle.submission_parts.specs.Reader as inner;
 ghost use Rattle.submission_parts.specs.Parts.{Bounds};
 ghost use Rattle.submission_parts.specs.Commits.{commitPart};
-use submission::BALLOT_SIZE;
 use submission::COMMIT_FIELDS_SIZE;
 use submission::COMMIT_SIGNERS_AT;
-use submission::LAST_INDEX_AT;
-use submission::LAST_TERM_AT;
 use submission::SIGNERS_SIZE;
 use submission::TERM_AT;
 
@@ -24,8 +23,8 @@ pub mod layout;
 // The numbers of a leader certificate.
 pub struct Certificate {
     pub candidate: u16,
-    pub term: u32,
-    pub last_term: u32,
+    pub term: u64,
+    pub last_term: u64,
     pub last_index: u32,
     pub signers: u16,
 }
@@ -69,58 +68,71 @@ fn signatures_size(mask: u16, size: usize) -> usize
 }
 
 // The place after a leader certificate that lies inside.
-pub fn certificate_end(s: &[u8], at: usize, size: usize) -> usize
-    requires { ⌜ certificateEnd 4 size (now s) at ≤ length (now s) ⌝ }
-    ensures { λ r. ⌜ r ≡ certificateEnd 4 size (now (s .entry)) at ⌝ }
+pub fn certificate_end(s: &[u8], at: usize, width: usize, size: usize) -> usize
+    requires { ⌜ (width ≤ widthMost) × (certificateEnd width size (now s) at ≤ length (now s)) ⌝ }
+    ensures { λ r. ⌜ r ≡ certificateEnd width size (now (s .entry)) at ⌝ }
 {
-    let signers = words::u16_at(s, at + BALLOT_SIZE);
-    at + BALLOT_SIZE + SIGNERS_SIZE + size * (u16::count_ones(signers) as usize)
+    let fields = at + submission::ballot_size(width);
+    let signers = words::u16_at(s, fields);
+    fields + SIGNERS_SIZE + size * (u16::count_ones(signers) as usize)
 }
 
 // The leader certificate at a place.
-pub fn read(s: &[u8], at: usize, end: usize, size: usize) -> Reading
+pub fn read(s: &[u8], at: usize, end: usize, width: usize, size: usize) -> Reading
     requires { ⌜ (at ≤ end) × (end ≤ length (now s)) × (length (now s) ≤ submissionMost)
-        × (size ≤ inner.signatureMost) ⌝ }
-    ensures { λ r. ⌜ (r ≡ inner.reading size (now (s .entry)) at end)
-        × (inner.readingNumber r ≡ inner.endNumber (certificateEnd 4 size (now (s .entry)) at) end) ⌝ }
+        × (width ≤ widthMost) × (size ≤ inner.signatureMost) ⌝ }
+    ensures { λ r. ⌜ (r ≡ inner.reading width size (now (s .entry)) at end)
+        × (inner.readingNumber r ≡ inner.endNumber (certificateEnd width size (now (s .entry)) at) end) ⌝ }
 {
-    if end < at + BALLOT_SIZE + SIGNERS_SIZE {
+    let fields = at + submission::ballot_size(width);
+    if end < fields + SIGNERS_SIZE {
         return Reading::Refused;
     }
-    let signers = words::u16_at(s, at + BALLOT_SIZE);
-    let next = at + BALLOT_SIZE + SIGNERS_SIZE + signatures_size(signers, size);
+    let signers = words::u16_at(s, fields);
+    let next = fields + SIGNERS_SIZE + signatures_size(signers, size);
     if end < next {
         return Reading::Refused;
     }
-    let numbers = numbers_at(s, at);
+    let numbers = numbers_at(s, at, width);
     Reading::Read(numbers, next)
 }
 
 // The numbers of the leader certificate at a place.
-pub fn numbers_at(s: &[u8], at: usize) -> Certificate
-    requires { ⌜ (at + inner.fieldsSize ≤ length (now s)) × (length (now s) ≤ submissionMost) ⌝ }
-    ensures { λ r. ⌜ r ≡ inner.numbersAt (now (s .entry)) at ⌝ }
+pub fn numbers_at(s: &[u8], at: usize, width: usize) -> Certificate
+    requires { ⌜ (at + inner.fieldsSize width ≤ length (now s)) × (length (now s) ≤ submissionMost)
+        × (width ≤ widthMost) ⌝ }
+    ensures { λ r. ⌜ r ≡ inner.numbersAt width (now (s .entry)) at ⌝ }
 {
+    let last_term = at + TERM_AT + width;
+    let fields = at + submission::ballot_size(width);
     Certificate {
         candidate: words::u16_at(s, at),
-        term: words::u32_at(s, at + TERM_AT),
-        last_term: words::u32_at(s, at + LAST_TERM_AT),
-        last_index: words::u32_at(s, at + LAST_INDEX_AT),
-        signers: words::u16_at(s, at + BALLOT_SIZE),
+        term: words::number_at(s, at + TERM_AT, width),
+        last_term: words::number_at(s, last_term, width),
+        last_index: words::u32_at(s, last_term + width),
+        signers: words::u16_at(s, fields),
     }
 }
 
 // The place after so many leader certificates from a place on.
-pub fn place_after(s: &[u8], count: usize, from: usize, end: usize, size: usize) -> Place
+pub fn place_after(
+    s: &[u8],
+    count: usize,
+    from: usize,
+    end: usize,
+    width: usize,
+    size: usize,
+) -> Place
     requires { ⌜ (from ≤ end) × (end ≤ length (now s)) × (length (now s) ≤ submissionMost)
-        × (size ≤ inner.signatureMost) ⌝ }
-    ensures { λ r. ⌜ (r ≡ inner.placeAfter size (now (s .entry)) count from end)
-        × (inner.placeNumber r ≡ inner.endNumber (certificatesEnd 4 size (now (s .entry)) count from) end) ⌝ }
+        × (width ≤ widthMost) × (size ≤ inner.signatureMost) ⌝ }
+    ensures { λ r. ⌜ (r ≡ inner.placeAfter width size (now (s .entry)) count from end)
+        × (inner.placeNumber r
+        ≡ inner.endNumber (certificatesEnd width size (now (s .entry)) count from) end) ⌝ }
 {
     let mut at = from;
     let mut left = count;
     while 0 < left {
-        let Reading::Read(_, next) = read(s, at, end, size) else {
+        let Reading::Read(_, next) = read(s, at, end, width, size) else {
             return Place::Refused;
         };
         at = next;
@@ -154,9 +166,9 @@ pub fn read_commit(s: &[u8], at: usize, end: usize, size: usize) -> CommitReadin
 
 // The commit certificate of a laid-out submission. Check 9 has read it before, and handed a refusal up
 // (`layout::commit_stands`): here the proof shows that none comes.
-pub fn commit_part(s: &[u8], size: usize) -> CommitPart
-    requires { ⌜ Bounds size (now s) × (laidOut 4 size (now s) ≡ true) ⌝ }
-    ensures { λ r. ⌜ r ≡ commitPart size (now (s .entry)) ⌝ }
+pub fn commit_part(s: &[u8], width: usize, size: usize) -> CommitPart
+    requires { ⌜ Bounds width size (now s) × (laidOut width size (now s) ≡ true) ⌝ }
+    ensures { λ r. ⌜ r ≡ commitPart width size (now (s .entry)) ⌝ }
 {
     let back = submission_trailer::distance(s, 4);
     if back == 0 {

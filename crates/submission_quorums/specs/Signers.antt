@@ -4,5 +4,5 @@ use Prim.Native.Nat.{ℕ}
 use Rattle.submission.specs.Reading.{certificates}
 
 -- those of so many leader certificates from a place on
-unfoldable pub leaderMasks : ℕ → List ℕ → ℕ → ℕ → List ℕ
-leaderMasks S s count at = map (λ c. c .signers) (certificates 4 S s count at)
+unfoldable pub leaderMasks : ℕ → ℕ → List ℕ → ℕ → ℕ → List ℕ
+leaderMasks w S s count at = map (λ c. c .signers) (certificates w S s count at)

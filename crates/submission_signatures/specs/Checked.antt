@@ -5,27 +5,28 @@ use mathlib.Core.List.{List}
 use Prim.Native.Nat.{ℕ}
 use lib.ListN.{length}
 use Rattle.refusal.specs.Checks.{every}
-use Rattle.roster.specs.Roster.{replicas, rosterNumber}
+use Rattle.roster.specs.Roster.{cluster, replicas, rosterNumber}
+use Rattle.log_chain.specs.Log.{withTerms}
 use Rattle.submission.specs.View.{leads}
 use Rattle.submission.specs.Reading.{view, laidOut}
-use Rattle.submission.specs.Validate.{quorate, masks, oneEach, leading, within, formOf}
+use Rattle.submission.specs.Validate.{quorate, masks, oneEach, leading, within}
 use Rattle.submission_parts.specs.Parts.{Bounds}
 
-module _ (roster : List ℕ) (S : ℕ) (s : List ℕ) where
+module _ (roster : List ℕ) (w S : ℕ) (s : List ℕ) where
   -- 2 to 10
   pub record Laid : Type 0 where
     pub fine : rosterNumber roster ≡ 0
-    pub bounds : Bounds S s
-    pub layout : laidOut 4 S s ≡ true
-    pub quorums : every (quorate (replicas roster)) (masks (view 4 S s)) ≡ true
+    pub bounds : Bounds w S s
+    pub layout : laidOut w S s ≡ true
+    pub quorums : every (quorate (replicas roster)) (masks (view w S s)) ≡ true
 
   -- 2 to 12
   pub record Counted : Type 0 where
     pub laid : Laid
-    pub count : oneEach (view 4 S s) ≡ true
+    pub count : oneEach (view w S s) ≡ true
 
   -- 2 to 14
   pub record Checked : Type 0 where
     pub counted : Counted
-    pub leaders : every (leading (formOf roster) (replicas roster)) (leads (view 4 S s)) ≡ true
-    pub commit : within (view 4 S s .commit) (length (view 4 S s .log)) ≡ true
+    pub leaders : every (leading (withTerms w (cluster roster)) (replicas roster)) (leads (view w S s)) ≡ true
+    pub commit : within (view w S s .commit) (length (view w S s .log)) ≡ true

@@ -1,16 +1,17 @@
-// Every signature of a submission (document 01, "What stops an audit", 15), for version 1: terms of 4 bytes.
+// Every signature of a submission (document 01, "What stops an audit", 15), over the term's width.
 ghost use mathlib.Core.Path.{_≡_};
 ghost use mathlib.Core.Bool.{false, cond};
 ghost use mathlib.Core.List.{[], map};
 ghost use Prim.Native.Nat.{_≤_};
 ghost use Rattle.refusal.specs.Checks.{every};
 ghost use Rattle.sha256.specs.Sha256.{bytesOf};
+ghost use Rattle.roster.specs.Roster.{cluster};
 ghost use Rattle.log_chain.specs.Log as chain;
 ghost use Rattle.submission.specs.Trailer.{recordCount};
 ghost use Rattle.submission.specs.View.{leads, stampOf, receiptsOf, slots};
 ghost use Rattle.log_chain.specs.Records.{recordsOf};
 ghost use Rattle.submission.specs.Reading.{view};
-ghost use Rattle.submission.specs.Validate.{genuine, formOf};
+ghost use Rattle.submission.specs.Validate.{genuine};
 ghost use Rattle.submission_signatures.specs.Checked.{Checked};
 use sha256::State;
 use submission_parts::CommitPart;
@@ -20,45 +21,54 @@ pub mod stamps;
 pub mod votes;
 
 // Whether the stamps are good, from the pointer of record i.
-fn stamps_good_from(roster: &[u8], s: &[u8], size: usize, i: usize, before: State) -> bool
-    requires { ⌜ Checked (now roster) size (now s) × (i ≤ recordCount (now s))
-        × (bytesOf before ≡ chain.pointer (chain.version1 []) (recordsOf 4 i (now s))) ⌝ }
-    ensures { λ r. ⌜ r ≡ every (genuine (formOf (now (roster .entry))) (now (roster .entry))) (map
-        (stampOf size) (leads (view 4 size (now (s .entry))))) ⌝ }
+fn stamps_good_from(
+    roster: &[u8],
+    s: &[u8],
+    width: usize,
+    size: usize,
+    i: usize,
+    before: State,
+) -> bool
+    requires { ⌜ Checked (now roster) width size (now s) × (i ≤ recordCount (now s))
+        × (bytesOf before ≡ chain.pointer (chain.withTerms width []) (recordsOf width i (now s))) ⌝ }
+    ensures { λ r. ⌜ r ≡ every (genuine (chain.withTerms width (cluster (now (roster .entry)))) (now (roster .entry))) (map
+        (stampOf size) (leads (view width size (now (s .entry))))) ⌝ }
 {
     let records = submission_trailer::record_count(s);
-    let end = log_terms::pointers::pointer_after(s, i, records, before);
+    let end = log_terms::pointers::pointer_after(s, width, i, records, before);
     let leaders = submission_trailer::leader_count(s);
-    let from = submission_parts::layout::leaders_from(s);
+    let from = submission_parts::layout::leaders_from(s, width);
     let stamps = submission_parts::layout::stamps_from(s);
-    stamps::stamps_good(roster, s, size, records, leaders, from, stamps, end)
+    stamps::stamps_good(roster, s, width, size, records, leaders, from, stamps, end)
 }
 
 // Whether the stamps and the receipts are good. Each record is hashed once: first up to the commit index,
 // whose pointer the receipts have, then to the log's end.
-fn places_good(roster: &[u8], s: &[u8], size: usize) -> bool
-    requires { ⌜ Checked (now roster) size (now s) ⌝ }
-    ensures { λ r. ⌜ r ≡ cond (every (genuine (formOf (now (roster .entry))) (now (roster .entry))) (map
-        (stampOf size) (leads (view 4 size (now (s .entry))))))
-        (every (genuine (formOf (now (roster .entry))) (now (roster .entry))) (receiptsOf size (view 4 size
-        (now (s .entry)) .commit) (view 4 size (now (s .entry)) .log))) false ⌝ }
+fn places_good(roster: &[u8], s: &[u8], width: usize, size: usize) -> bool
+    requires { ⌜ Checked (now roster) width size (now s) ⌝ }
+    ensures { λ r. ⌜ r ≡ cond (every (genuine (chain.withTerms width (cluster (now (roster .entry)))) (now (roster .entry))) (map
+        (stampOf size) (leads (view width size (now (s .entry))))))
+        (every (genuine (chain.withTerms width (cluster (now (roster .entry)))) (now (roster .entry))) (receiptsOf size (view width size
+        (now (s .entry)) .commit) (view width size (now (s .entry)) .log))) false ⌝ }
 {
-    let CommitPart::Found(c, at) = submission_parts::commit_part(s, size) else {
-        return stamps_good_from(roster, s, size, 0, log_terms::pointers::pointer_zero());
+    let CommitPart::Found(c, at) = submission_parts::commit_part(s, width, size) else {
+        return stamps_good_from(roster, s, width, size, 0, log_terms::pointers::pointer_zero());
     };
     let index = c.index as usize;
     let pointer = log_terms::pointers::pointer_after(
         s,
+        width,
         0,
         index,
         log_terms::pointers::pointer_zero(),
     );
-    if !stamps_good_from(roster, s, size, index, pointer) {
+    if !stamps_good_from(roster, s, width, size, index, pointer) {
         return false;
     }
     receipts::receipts_good(
         roster,
         s,
+        width,
         size,
         submission_trailer::record_count(s),
         at,
@@ -67,15 +77,15 @@ fn places_good(roster: &[u8], s: &[u8], size: usize) -> bool
 }
 
 // 15: whether every signature is good.
-pub fn all_signatures_good(roster: &[u8], s: &[u8], size: usize) -> bool
-    requires { ⌜ Checked (now roster) size (now s) ⌝ }
-    ensures { λ r. ⌜ r ≡ every (genuine (formOf (now (roster .entry))) (now (roster .entry))) (slots size
-        (view 4 size (now (s .entry)))) ⌝ }
+pub fn all_signatures_good(roster: &[u8], s: &[u8], width: usize, size: usize) -> bool
+    requires { ⌜ Checked (now roster) width size (now s) ⌝ }
+    ensures { λ r. ⌜ r ≡ every (genuine (chain.withTerms width (cluster (now (roster .entry)))) (now (roster .entry))) (slots size
+        (view width size (now (s .entry)))) ⌝ }
 {
     let leaders = submission_trailer::leader_count(s);
-    let from = submission_parts::layout::leaders_from(s);
-    if !votes::votes_good(roster, s, size, leaders, from) {
+    let from = submission_parts::layout::leaders_from(s, width);
+    if !votes::votes_good(roster, s, width, size, leaders, from) {
         return false;
     }
-    places_good(roster, s, size)
+    places_good(roster, s, width, size)
 }

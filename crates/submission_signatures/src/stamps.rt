@@ -1,11 +1,11 @@
-// The stamps of a submission (document 01, "What stops an audit", number 15), for version 1: terms of 4
-// bytes.
+// The stamps of a submission (document 01, "What stops an audit", number 15), over the term's width.
 ghost use mathlib.Core.Path.{_≡_};
 ghost use mathlib.Core.Bool.{true};
 ghost use mathlib.Core.List.{[], _∷_, _++_, map};
 ghost use Prim.Native.Nat.{_+_, _*_, _≤_, _<_};
 ghost use lib.ListN.{length, take, drop};
 ghost use Rattle.words.specs.BigEndian.{be, numberAt};
+ghost use Rattle.words.specs.Widths.{widthMost};
 ghost use Rattle.refusal.specs.Checks.{every};
 ghost use Rattle.sha256.specs.Sha256.{bytesOf};
 ghost use Rattle.lms.specs.Check.{good};
@@ -17,8 +17,7 @@ ghost use Rattle.submission.specs.Reading.{ballotSize, certificates, certificat
 ghost use Rattle.log_chain.specs.Records.{recordsOf};
 ghost use Rattle.submission.specs.Validate as paper;
 use sha256::State;
-use submission::LAST_INDEX_AT;
-use submission::LAST_POINTER_AT;
+use submission::STATEMENT_MOST;
 use submission::TERM_AT;
 
 // A stamp's kind byte.
@@ -29,23 +28,27 @@ const STAMP: u8 = 1;
 fn stamp_good(
     roster: &[u8],
     s: &[u8],
+    width: usize,
     size: usize,
     at: usize,
     stamp: usize,
     index: u32,
     pointer: State,
 ) -> bool
-    requires { ⌜ (rosterNumber (now roster) ≡ 0) × (at + ballotSize 4 ≤ length (now s))
+    requires { ⌜ (rosterNumber (now roster) ≡ 0) × (width ≤ widthMost) × (at + ballotSize width ≤ length (now s))
         × (0 < numberAt 2 (now s) at)
         × (numberAt 2 (now s) at ≤ replicas (now roster)) × (stamp + size ≤ length (now s)) ⌝ }
     ensures { λ r. ⌜ r ≡ good (keyOf (now (roster .entry)) (numberAt 2 (now (s .entry)) at)) (1
-        ∷ cluster (now (roster .entry)) ++ be 4 (numberAt 4 (now (s .entry)) (at + 2)) ++ be 4 index
+        ∷ cluster (now (roster .entry)) ++ be width (numberAt width (now (s .entry)) (at + 2)) ++ be 4 index
         ++ bytesOf pointer) (take size (drop stamp (now (s .entry)))) ⌝ }
 {
-    let term = words::u32_at(s, at + TERM_AT);
-    let statement = log_chain::place_statement(
+    let term = words::number_at(s, at + TERM_AT, width);
+    let mut statement = [0u8; STATEMENT_MOST];
+    let length = log_chain::put_place_statement(
+        &mut statement,
         STAMP,
         &roster[..roster::NAME_SIZE],
+        width,
         term,
         index,
         pointer,
@@ -54,7 +57,7 @@ fn stamp_good(
     submission_slots::signature_genuine(
         roster,
         words::u16_at(s, at) as usize,
-        &statement,
+        &statement[..length],
         &s[stamp..end],
     )
 }
@@ -64,6 +67,7 @@ fn stamp_good(
 pub fn stamps_good(
     roster: &[u8],
     s: &[u8],
+    width: usize,
     size: usize,
     records: usize,
     leaders: usize,
@@ -71,25 +75,26 @@ pub fn stamps_good(
     stamps: usize,
     pointer: State,
 ) -> bool
-    requires { ⌜ (rosterNumber (now roster) ≡ 0) × (records ≤ paper.recordMost)
-        × (certificatesEnd 4 size (now s) leaders from ≤ length (now s))
-        × (stamps + leaders * size ≤ length (now s)) × (length (runs (recordsOf 4 records (now s))) ≡ leaders)
-        × (every (paper.leading (paper.formOf (now roster)) (replicas (now roster))) (leadsOf
-        (certificates 4 size (now s) leaders from) (runs (recordsOf 4 records (now s))) (stampsAt size
+    requires { ⌜ (rosterNumber (now roster) ≡ 0) × (width ≤ widthMost) × (records ≤ paper.recordMost)
+        × (certificatesEnd width size (now s) leaders from ≤ length (now s))
+        × (stamps + leaders * size ≤ length (now s)) × (length (runs (recordsOf width records (now s))) ≡ leaders)
+        × (every (paper.leading (chain.withTerms width (cluster (now roster))) (replicas (now roster))) (leadsOf
+        (certificates width size (now s) leaders from) (runs (recordsOf width records (now s))) (stampsAt size
         (now s) leaders stamps)) ≡ true)
-        × (bytesOf pointer ≡ chain.pointer (chain.version1 []) (recordsOf 4 records (now s))) ⌝ }
-    ensures { λ r. ⌜ r ≡ every (paper.genuine (paper.formOf (now (roster .entry))) (now (roster .entry))) (map
-        (stampOf size) (leadsOf (certificates 4 size (now (s .entry)) leaders from) (runs (recordsOf 4 records
+        × (bytesOf pointer ≡ chain.pointer (chain.withTerms width []) (recordsOf width records (now s))) ⌝ }
+    ensures { λ r. ⌜ r ≡ every (paper.genuine (chain.withTerms width (cluster (now (roster .entry)))) (now (roster .entry))) (map
+        (stampOf size) (leadsOf (certificates width size (now (s .entry)) leaders from) (runs (recordsOf width records
         (now (s .entry)))) (stampsAt size (now (s .entry)) leaders stamps))) ⌝ }
 {
     let mut left = leaders;
     let mut at = from;
     let mut stamp = stamps;
     while 1 < left {
-        let next = submission_parts::certificate_end(s, at, size);
-        let index = words::u32_at(s, next + LAST_INDEX_AT);
-        let last = lm_hash::value_at(s, next + LAST_POINTER_AT);
-        if !stamp_good(roster, s, size, at, stamp, index, last) {
+        let next = submission_parts::certificate_end(s, at, width, size);
+        let last_index = next + TERM_AT + width + width;
+        let index = words::u32_at(s, last_index);
+        let last = lm_hash::value_at(s, last_index + log_chain::INDEX_SIZE);
+        if !stamp_good(roster, s, width, size, at, stamp, index, last) {
             return false;
         }
         at = next;
@@ -99,5 +104,5 @@ pub fn stamps_good(
     if left == 0 {
         return true;
     }
-    stamp_good(roster, s, size, at, stamp, records as u32, pointer)
+    stamp_good(roster, s, width, size, at, stamp, records as u32, pointer)
 }

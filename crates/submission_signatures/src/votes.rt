@@ -1,34 +1,42 @@
-// The votes of a submission (document 01, "What stops an audit", number 15).
+// The votes of a submission (document 01, "What stops an audit", number 15), over the term's width.
 ghost use mathlib.Core.Path.{_≡_};
 ghost use mathlib.Core.Bool.{true};
 ghost use mathlib.Core.List.{flatMap};
 ghost use Prim.Native.Nat.{_+_, _^_, _≤_, _<_};
 ghost use lib.ListN.{length};
+ghost use Rattle.words.specs.Widths.{widthMost};
 ghost use Rattle.refusal.specs.Checks.{every};
-ghost use Rattle.roster.specs.Roster.{replicas, rosterNumber};
+ghost use Rattle.roster.specs.Roster.{cluster, replicas, rosterNumber};
+ghost use Rattle.log_chain.specs.Log as chain;
 ghost use Rattle.submission.specs.Reading.{signersAt, ballotSize, certificateAt, certificateEnd};
 ghost use Rattle.submission.specs.Reading.{certificates, certificatesEnd};
 ghost use Rattle.submission.specs.Validate as paper;
 ghost use Rattle.submission_signatures.specs.Votes.{ballots, quorateAll};
-use submission::BALLOT_SIZE;
 use submission::SIGNERS_SIZE;
+use submission::STATEMENT_MOST;
 
 // A vote's kind byte.
 const VOTE: u8 = 3;
 
 // Whether the votes of the leader certificate at a place are good.
-fn votes_good_at(roster: &[u8], s: &[u8], size: usize, at: usize) -> bool
-    requires { ⌜ (rosterNumber (now roster) ≡ 0)
-        × (signersAt (now s) (at + ballotSize 4) < 2 ^ replicas (now roster))
-        × (certificateEnd 4 size (now s) at ≤ length (now s)) ⌝ }
-    ensures { λ r. ⌜ r ≡ every (paper.genuine (paper.formOf (now (roster .entry))) (now (roster .entry)))
-        (ballots size (certificateAt 4 (now (s .entry)) at)) ⌝ }
+fn votes_good_at(roster: &[u8], s: &[u8], width: usize, size: usize, at: usize) -> bool
+    requires { ⌜ (rosterNumber (now roster) ≡ 0) × (width ≤ widthMost)
+        × (signersAt (now s) (at + ballotSize width) < 2 ^ replicas (now roster))
+        × (certificateEnd width size (now s) at ≤ length (now s)) ⌝ }
+    ensures { λ r. ⌜ r ≡ every (paper.genuine (chain.withTerms width (cluster (now (roster .entry)))) (now (roster .entry)))
+        (ballots size (certificateAt width (now (s .entry)) at)) ⌝ }
 {
-    let end = at + BALLOT_SIZE;
-    let statement = log_chain::vote_statement(VOTE, &roster[..roster::NAME_SIZE], &s[at..end]);
+    let end = at + submission::ballot_size(width);
+    let mut statement = [0u8; STATEMENT_MOST];
+    let length = log_chain::put_vote_statement(
+        &mut statement,
+        VOTE,
+        &roster[..roster::NAME_SIZE],
+        &s[at..end],
+    );
     submission_slots::certificate_signatures_good(
         roster,
-        &statement,
+        &statement[..length],
         words::u16_at(s, end),
         s,
         end + SIGNERS_SIZE,
@@ -37,20 +45,27 @@ fn votes_good_at(roster: &[u8], s: &[u8], size: usize, at: usize) -> bool
 }
 
 // Whether the votes of so many leader certificates from a place on are good.
-pub fn votes_good(roster: &[u8], s: &[u8], size: usize, leaders: usize, from: usize) -> bool
-    requires { ⌜ (rosterNumber (now roster) ≡ 0)
-        × (certificatesEnd 4 size (now s) leaders from ≤ length (now s))
-        × (quorateAll (replicas (now roster)) (certificates 4 size (now s) leaders from) ≡ true) ⌝ }
-    ensures { λ r. ⌜ r ≡ every (paper.genuine (paper.formOf (now (roster .entry))) (now (roster .entry)))
-        (flatMap (ballots size) (certificates 4 size (now (s .entry)) leaders from)) ⌝ }
+pub fn votes_good(
+    roster: &[u8],
+    s: &[u8],
+    width: usize,
+    size: usize,
+    leaders: usize,
+    from: usize,
+) -> bool
+    requires { ⌜ (rosterNumber (now roster) ≡ 0) × (width ≤ widthMost)
+        × (certificatesEnd width size (now s) leaders from ≤ length (now s))
+        × (quorateAll (replicas (now roster)) (certificates width size (now s) leaders from) ≡ true) ⌝ }
+    ensures { λ r. ⌜ r ≡ every (paper.genuine (chain.withTerms width (cluster (now (roster .entry)))) (now (roster .entry)))
+        (flatMap (ballots size) (certificates width size (now (s .entry)) leaders from)) ⌝ }
 {
     let mut left = leaders;
     let mut at = from;
     while 0 < left {
-        if !votes_good_at(roster, s, size, at) {
+        if !votes_good_at(roster, s, width, size, at) {
             return false;
         }
-        at = submission_parts::certificate_end(s, at, size);
+        at = submission_parts::certificate_end(s, at, width, size);
         left -= 1;
     }
     true

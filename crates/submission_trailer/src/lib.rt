@@ -16,8 +16,10 @@ const RECORD_MOST: usize = 4096;
 
 const LEADER_MOST: usize = 64;
 
-// The version of this paper.
+// The version of this paper, and the bytes of a term in it.
 const VERSION: u32 = 1;
+
+pub const TERM_SIZE: usize = 4;
 
 // The trailer's first byte.
 pub fn trailer_at(s: &[u8]) -> usize

@@ -3,14 +3,14 @@
 use mathlib.Core.Path.{_≡_, refl, sym, ap, _∙_}
 use mathlib.Core.List.{List, [], _∷_, _++_}
 use Prim.Native.Nat.{ℕ, zero, suc, _+_, _-_, _*_, _/_, _%_, _^_, _≤_, _<_}
-use native.Mathlib.Nat.{add-zero, add-suc, add-comm, add-mul-div-right, mul-add-mod-self-right, le-refl, zero-mul, add-mul, mul-assoc, zero-add, suc-add, pow-le-pow-right, div-eq-of-lt, lt-of-lt-of-le, add-assoc, mod-lt, mod-one, mod-eq-of-lt, pow-suc, pow-succ'}
+use native.Mathlib.Nat.{add-zero, add-suc, add-comm, add-mul-div-right, mul-add-mod-self-right, le-refl, zero-mul, add-mul, mul-assoc, zero-add, suc-add, pow-le-pow-right, div-eq-of-lt, lt-of-lt-of-le, add-assoc, mod-lt, mod-one, mod-eq-of-lt, pow-suc, pow-succ', div-one, mul-comm, div-div-eq-div-mul}
 use native.Mathlib.Numerals.{add-one}
 use native.Mathlib.Omega.{arith}
 use lib.Arith.{mod-mul, digits-lt, digits-div}
 use lib.Pow.{pow-add}
 use lib.Dec.{lit<}
 use lib.ListN.{length, take, drop, getD, length-take, length-drop, length-append, replicate, set}
-use lib.Seq.{take-suc, drop-cons, drop-drop, take-all, take-at, drop-at, length-take-le, sets, sets-eq}
+use lib.Seq.{take-suc, drop-cons, drop-drop, take-all, take-at, drop-at, length-take-le, sets, sets-eq, getD-drop, set-comm}
 use Rattle.words.specs.BigEndian.{number, be, numberAt}
 use Rattle.words.proofs.Bytes.{Bytes, none, more}
 
@@ -84,9 +84,35 @@ numberAt-suc w s at h =
     let rest : length (take w (drop (suc at) s)) ≡ w = simp (length-take, length-drop) (omega arith) in
     rw (add-one, drop-cons s at 0 inside, rest)
 
-numberAt-zero : (s : List ℕ) (at : ℕ) → numberAt 0 s at ≡ 0
+pub numberAt-zero : (s : List ℕ) (at : ℕ) → numberAt 0 s at ≡ 0
 unfolding numberAt number
 numberAt-zero s at = refl
+
+one-byte : (a b : ℕ) → a * 256 ^ 1 + number (b ∷ []) ≡ a * 256 + b
+unfolding number
+one-byte a b = omega arith
+
+-- the number of the bytes before the last, then the lowest byte
+pub numberAt-more : (w : ℕ) (s : List ℕ) (at : ℕ) → at + suc w ≤ length s
+    → numberAt (suc w) s at ≡ numberAt w s at * 256 + getD s (at + w) 0
+unfolding numberAt
+numberAt-more w s at h =
+    let inside : w < length (drop at s) = rw length-drop (omega arith) in
+    ap number (take-suc (drop at s) w 0 inside)
+    ∙ number-append (take w (drop at s)) (getD (drop at s) w 0 ∷ [])
+    ∙ one-byte (number (take w (drop at s))) (getD (drop at s) w 0)
+    ∙ ap (λ (b : ℕ). number (take w (drop at s)) * 256 + b) (getD-drop at s w 0)
+
+-- a byte more stays below the next power
+pub number-step : (i v b : ℕ) → v < 256 ^ i → b < 256 → v * 256 + b < 256 ^ suc i
+number-step i v b h k = rw pow-suc (omega arith)
+
+pow-256-le : (i j : ℕ) → i ≤ j → 256 ^ i ≤ 256 ^ j
+pow-256-le i j h = pow-le-pow-right (lit< tt) h
+
+-- below eight bytes, a byte more fits 64 bits
+pub number-room : (i v : ℕ) → i < 8 → v < 256 ^ i → v < 72057594037927936
+number-room i v h k = lt-of-lt-of-le k (pow-256-le i 7 (omega arith))
 
 pub numberAt-2 : (s : List ℕ) (at : ℕ) → at + 2 ≤ length s → numberAt 2 s at ≡ getD s at 0 * 256 + getD s (at + 1) 0
 numberAt-2 s at h =
@@ -175,3 +201,23 @@ pub sets-next : (w e vs : List ℕ) (k j : ℕ) → length w ≡ k → k + lengt
 sets-next w e vs k j hw hj h =
     let long : k + length vs ≤ length (w ++ drop k e) = rw (length-append, length-drop, hw) (omega arith) in
     rw (sets-eq vs (w ++ drop k e) k long, take-at w (drop k e) k hw, ← drop-drop, drop-at w (drop k e) k hw, drop-drop, hj)
+
+-- ---- a number written from its last byte on
+
+-- the last byte, and those before it
+pub be-snoc : (w n : ℕ) → be (suc w) n ≡ be w (n / 256) ++ (n % 256 ∷ [])
+unfolding be
+be-snoc zero n = rw div-one
+be-snoc (suc w) n =
+    let first : n / 256 ^ suc w % 256 ≡ n / 256 / 256 ^ w % 256 = rw (pow-suc, mul-comm (256 ^ w) 256, ← div-div-eq-div-mul) in
+    rw first (ap (λ (l : List ℕ). n / 256 / 256 ^ w % 256 ∷ l) (be-snoc w n))
+
+set-behind : (l vs : List ℕ) (at j x : ℕ) → at + length vs ≤ j → sets (set l j x) at vs ≡ set (sets l at vs) j x
+set-behind l [] at j x h = refl
+set-behind l (v ∷ vs) at j x h = rw (set-comm l j at x v (λ e. omega (arith, e))) (set-behind (set l at v) vs (suc at) j x (omega arith))
+
+-- the last byte stored, then the others, is all of them stored
+pub byte-step : (l : List ℕ) (at w n : ℕ) → sets (set l (at + w) (n % 256)) at (be w (n / 256)) ≡ sets l at (be (suc w) n)
+byte-step l at w n =
+    set-behind l (be w (n / 256)) at (at + w) (n % 256) (rw length-be (le-refl (at + w)))
+    ∙ rw (be-snoc w n, sets-append l at (be w (n / 256)) (n % 256 ∷ []), length-be)

@@ -2,3 +2,4 @@ pub mod Bytes
 pub mod Laws
 pub mod Members
 pub mod Same
+pub mod Over

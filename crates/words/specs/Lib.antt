@@ -1,1 +1,3 @@
 pub mod BigEndian
+pub mod Over
+pub mod Widths

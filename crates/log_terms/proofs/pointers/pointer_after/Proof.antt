@@ -3,25 +3,30 @@
 use mathlib.Core.Path.{_≡_}
 use mathlib.Core.List.{[]}
 use Prim.Native.Nat.{_-_, _≤_}
+use native.Mathlib.Nat.{le-trans, mul-le-mul-left}
+use native.Mathlib.Numerals.{add-one}
 use native.Mathlib.Omega.{arith}
 use Rattle.sha256.specs.Sha256.{bytesOf}
-use Rattle.log_chain.specs.Log.{version1, pointer}
+use Rattle.log_chain.specs.Log.{withTerms, pointer}
 use Rattle.log_chain.specs.Records.{recordSize, recordsOf}
 use Rattle.log_terms.proofs.pointers.pointer_after.Statement.{statement}
 use Rattle.log_terms.proofs.pointers.pointer_after.Tie as tie
 
 abbrev Inv-loop : tie.InvT-loop
-Inv-loop s i end p₀ k₀ p k = (k ≤ end) × (bytesOf p ≡ pointer (version1 []) (recordsOf 4 k s))
+Inv-loop s w i end p₀ k₀ p k = (k ≤ end) × (bytesOf p ≡ pointer (withTerms w []) (recordsOf w k s))
 
 abbrev μ-loop : tie.MeasureT-loop
-μ-loop s i end p₀ k₀ p k = end - k
+μ-loop s w i end p₀ k₀ p k = end - k
 
 loop-holds : tie.Need-loop-holds Inv-loop μ-loop
-loop-holds c = (c .before .pre .0, c .before .pre .3)
+loop-holds c = (c .before .pre .1, c .before .pre .4)
 
 step-requires : tie.Need-step-requires Inv-loop μ-loop
-unfolding recordSize
-step-requires c κs = (omega arith, omega arith, c .before .loop .inv .1)
+step-requires c κs =
+    let start = c .before .before .before in
+    let a = start .args in
+    let l = c .before .loop in
+    (start .pre .0, omega arith, rw add-one (le-trans (mul-le-mul-left (recordSize (a .width)) (c .loop-test .taken)) (start .pre .3)), l .inv .1)
 
 add-k : tie.Need-add-k Inv-loop μ-loop
 add-k c = omega arith

@@ -10,7 +10,7 @@ use Rattle.log_terms.proofs.pointers.pointer_zero.Tie as tie
 
 returns : tie.Need-returns
 unfolding bytesOf wordsOf flatMap be pointer pointerFrom
-returns c = refl
+returns c w = refl
 
 pub pointer-zero-spec : {M : Type 1} → statement M
 pointer-zero-spec = tie.close (tie.spec returns)

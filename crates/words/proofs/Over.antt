@@ -1,0 +1,52 @@
+-- What a writer leaves of a buffer: what was written, read again; and a buffer whose rest was lent on to another writer.
+-- Assumes nothing.
+use mathlib.Core.Path.{_≡_, refl, sym, ap, _∙_}
+use mathlib.Core.List.{List, [], _++_, append-assoc, append-nil}
+use Prim.Native.Nat.{ℕ, _+_, _-_, _≤_}
+use native.Mathlib.Nat.{le-refl}
+use native.Mathlib.Omega.{arith}
+use borrow.Rule.Slice.PartMut.{putMid}
+use lib.ListN.{length, take, drop, length-append, length-drop, drop-of-length-le}
+use lib.Seq.{take-at, drop-at, drop-drop}
+use Rattle.words.specs.Over.{over}
+use Rattle.words.proofs.Laws.{part-end}
+
+-- nothing written
+pub over-nothing : (e : List ℕ) → over [] e ≡ e
+unfolding over
+over-nothing e = refl
+
+-- the bytes that end at a place, and what is kept from there on
+pub over-at : (B e : List ℕ) (j : ℕ) → length B ≡ j → B ++ drop j e ≡ over B e
+unfolding over
+over-at B e j h = ap (λ (k : ℕ). B ++ drop k e) (sym h)
+
+pub over-length : (B e : List ℕ) → length B ≤ length e → length (over B e) ≡ length e
+unfolding over
+over-length B e h = rw (length-append, length-drop) (omega arith)
+
+-- what was written, read again
+pub over-taken : (B e : List ℕ) (j : ℕ) → j ≡ length B → take j (over B e) ≡ B
+unfolding over
+over-taken B e j h = take-at B (drop (length B) e) j (sym h)
+
+-- what stands in the buffer up to a place, and then what a writer leaves of the rest
+pub over-more : (W e B : List ℕ) (a : ℕ) → length W ≡ a → take a (over W e) ++ over B (drop a (over W e)) ≡ over (W ++ B) e
+unfolding over
+over-more W e B a h =
+    let rest : drop a (W ++ drop (length W) e) ≡ drop (length W) e = drop-at W _ a h in
+    let first : take a (W ++ drop (length W) e) ≡ W = take-at W _ a h in
+    let size : length W + length B ≡ length (W ++ B) = sym (length-append W B) in
+    (λ i. first i ++ (B ++ drop (length B) (rest i)))
+    ∙ ap (λ z. W ++ (B ++ z)) (drop-drop (length B) (length W) e ∙ ap (λ k. drop k e) size)
+    ∙ sym (append-assoc W B (drop (length (W ++ B)) e))
+
+-- the same, as it is told of a buffer whose rest, `&mut out[a..]`, was lent on
+pub lent-on : (W e B : List ℕ) (a : ℕ) → length W ≡ a → length W ≤ length e
+    → putMid a (length (over W e) - a) (over W e) (over B (take (length (over W e) - a) (drop a (over W e)))) ≡ over (W ++ B) e
+lent-on W e B a h room =
+    let X = over W e in
+    let whole : take (length X - a) (drop a X) ≡ drop a X = part-end X a in
+    let short : length (drop a X) ≤ length X - a = rw length-drop (le-refl (length X - a)) in
+    let none : drop (length X - a) (drop a X) ≡ [] = drop-of-length-le (drop a X) short in
+    (λ i. take a X ++ (over B (whole i) ++ none i)) ∙ ap (λ z. take a X ++ z) (append-nil (over B (drop a X))) ∙ over-more W e B a h
