@@ -21,7 +21,7 @@ trailer L back = replicate 16 7 ++ be 4 0 ++ be 4 L ++ flatMap (be 4) (0 ∷ 0 �
 parts : List ℕ
 parts = replicate 46 2 ++ be 2 3 ++ (10 ∷ 11 ∷ 12 ∷ []) ++ be 4 1 ++ be 2 5 ++ (13 ∷ 14 ∷ [])
 
-commits : (commitPart 1 (parts ++ trailer 1 8) ≡ Found (record { index = 1; signers = 5 }) 51) × (commitPart 1 (trailer 0 0) ≡ Absent)
+commits : (commitPart 4 1 (parts ++ trailer 1 8) ≡ Found (record { index = 1; signers = 5 }) 51) × (commitPart 4 1 (trailer 0 0) ≡ Absent)
 unfolding parts trailer commitPart commitNumbersAt leadersFrom stampsFrom commitFrom certificatesEnd certificateEnd commitAt signersAt recordSize ballotSize distance recordCount leaderCount
     word numberAt number be flatMap ones onesIn
 commits = (refl, refl)

@@ -17,8 +17,8 @@ parts : List ℕ
 parts = replicate 36 1 ++ replicate 46 2 ++ be 2 3 ++ (10 ∷ 11 ∷ 12 ∷ []) ++ be 4 1 ++ be 2 5 ++ (13 ∷ 14 ∷ [])
 
 -- what the readers give, at the certificate of the term and at the commit certificate: one byte less than it has is refused
-readers : (reader.reading 1 parts 36 86 ≡ Read (record { candidate = 514; term = 33686018; «last_term» = 33686018; «last_index» = 33686018; signers = 3 }) 86)
-    × (reader.reading 1 parts 36 85 ≡ Refused) × (reader.placeAfter 1 parts 1 36 95 ≡ At 86) × (reader.placeAfter 1 parts 1 36 85 ≡ Beyond)
+readers : (reader.reading 4 1 parts 36 86 ≡ Read (record { candidate = 514; term = 33686018; «last_term» = 33686018; «last_index» = 33686018; signers = 3 }) 86)
+    × (reader.reading 4 1 parts 36 85 ≡ Refused) × (reader.placeAfter 4 1 parts 1 36 95 ≡ At 86) × (reader.placeAfter 4 1 parts 1 36 85 ≡ Beyond)
     × (reader.commitReading 1 parts 87 95 ≡ ReadCommit (record { index = 1; signers = 5 }) 95) × (reader.commitReading 1 parts 87 94 ≡ NoCommit)
 unfolding parts reader.reading reader.placeAfter reader.commitReading reader.numbersAt reader.commitNumbersAt
     commitEnd certificatesEnd certificateEnd ballotAt commitAt signersAt ballotSize numberAt number be ones onesIn

@@ -8,9 +8,11 @@ use native.Mathlib.Nat.{mul-le-mul}
 use native.Mathlib.Omega.{arith}
 use borrow.Author.Tests.{leb-true, eqb-true, ne-eqb}
 use lib.ListN.{length}
+use Rattle.words.specs.Widths.{widthMost}
 use Rattle.refusal.proofs.Laws.{all-cons}
 use Rattle.submission.specs.Trailer.{trailerSize, trailerAt, recordCount, leaderCount, distance}
 use Rattle.log_chain.specs.Records.{recordSize}
+use Rattle.log_chain.specs.Sizes.{recordSizeMost}
 use Rattle.submission.specs.Reading.{certificatesEnd, commitEnd, leadersFrom, stampsFrom, commitFrom, laidOut}
 use Rattle.submission_parts.specs.Reader.{signatureMost}
 use Rattle.submission_parts.specs.Parts.{Bounds}
@@ -21,11 +23,16 @@ use Rattle.submission.specs.Validate.{submissionMost, recordMost, leaderMost, s
 pub stamps-le : (L S : ℕ) → L ≤ leaderMost → S ≤ signatureMost → L * S ≤ leaderMost * signatureMost
 stamps-le L S few small = mul-le-mul few small
 
+-- ---- the bytes of records
+
+pub records-le : (size count : ℕ) → size ≤ recordSizeMost → count ≤ recordMost → size * count ≤ recordSizeMost * recordMost
+records-le size count small few = mul-le-mul small few
+
 -- ---- checks 5 and 8
 
-pub bounds : (S : ℕ) (s : List ℕ) → sized s ≡ true → counted s ≡ true → S ≤ signatureMost → Bounds S s
+pub bounds : (w S : ℕ) (s : List ℕ) → sized s ≡ true → counted s ≡ true → w ≤ widthMost → S ≤ signatureMost → Bounds w S s
 unfolding sized counted
-bounds S s size count small =
+bounds w S s size count narrow small =
     let long = all-cons _ _ size in
     let records = all-cons _ _ count in
     record {
@@ -33,21 +40,22 @@ bounds S s size count small =
       short = leb-true (length s) submissionMost (all-cons _ _ (long .1) .0);
       records = leb-true (recordCount s) recordMost (records .0);
       leaders = leb-true (leaderCount s) leaderMost (all-cons _ _ (records .1) .0);
+      width = narrow;
       signature = small;
     }
 
 -- ---- check 9
 
 -- each part at its distance from the trailer; a commit certificate ends there
-pub record Standing (S : ℕ) (s : List ℕ) : Type 0 where
+pub record Standing (w S : ℕ) (s : List ℕ) : Type 0 where
   pub records : distance s 1 ≡ trailerAt s
-  pub leaders : leadersFrom 4 S s + distance s 2 ≡ trailerAt s
-  pub stamps : stampsFrom 4 S s + distance s 3 ≡ trailerAt s
-  pub commit : commitFrom 4 S s + distance s 4 ≡ trailerAt s
-  pub commit-end : (distance s 4 ≡ 0 → ⊥) → commitEnd S s (commitFrom 4 S s) ≡ trailerAt s
+  pub leaders : leadersFrom w S s + distance s 2 ≡ trailerAt s
+  pub stamps : stampsFrom w S s + distance s 3 ≡ trailerAt s
+  pub commit : commitFrom w S s + distance s 4 ≡ trailerAt s
+  pub commit-end : (distance s 4 ≡ 0 → ⊥) → commitEnd S s (commitFrom w S s) ≡ trailerAt s
 
-module _ (S : ℕ) (s : List ℕ) (laid : laidOut 4 S s ≡ true) where
-  pub standing : Standing S s
+module _ (w S : ℕ) (s : List ℕ) (laid : laidOut w S s ≡ true) where
+  pub standing : Standing w S s
   unfolding laidOut
   standing =
       let first = all-cons _ _ laid in
@@ -57,30 +65,30 @@ module _ (S : ℕ) (s : List ℕ) (laid : laidOut 4 S s ≡ true) where
       let fifth = all-cons _ _ (fourth .1) .0 in
       record {
         records = eqb-true (distance s 1) (trailerAt s) (first .0);
-        leaders = eqb-true (leadersFrom 4 S s + distance s 2) (trailerAt s) (second .0);
-        stamps = eqb-true (stampsFrom 4 S s + distance s 3) (trailerAt s) (third .0);
-        commit = eqb-true (commitFrom 4 S s + distance s 4) (trailerAt s) (fourth .0);
-        commit-end = λ some. eqb-true (commitEnd S s (commitFrom 4 S s)) (trailerAt s) (rw (ne-eqb (distance s 4) 0 some) at fifth);
+        leaders = eqb-true (leadersFrom w S s + distance s 2) (trailerAt s) (second .0);
+        stamps = eqb-true (stampsFrom w S s + distance s 3) (trailerAt s) (third .0);
+        commit = eqb-true (commitFrom w S s + distance s 4) (trailerAt s) (fourth .0);
+        commit-end = λ some. eqb-true (commitEnd S s (commitFrom w S s)) (trailerAt s) (rw (ne-eqb (distance s 4) 0 some) at fifth);
       }
 
   -- part 1 has the bytes of its records
-  pub records-inside : recordSize 4 * recordCount s ≤ trailerAt s
+  pub records-inside : recordSize w * recordCount s ≤ trailerAt s
   unfolding leadersFrom
   records-inside = let p = standing in omega arith
 
   -- the leader certificates lie inside
-  pub leaders-inside : certificatesEnd 4 S s (leaderCount s) (leadersFrom 4 S s) ≤ trailerAt s
+  pub leaders-inside : certificatesEnd w S s (leaderCount s) (leadersFrom w S s) ≤ trailerAt s
   unfolding stampsFrom
   leaders-inside = let p = standing in omega arith
 
   -- the stamps lie inside
-  pub stamps-inside : stampsFrom 4 S s + leaderCount s * S ≤ trailerAt s
+  pub stamps-inside : stampsFrom w S s + leaderCount s * S ≤ trailerAt s
   unfolding commitFrom
   stamps-inside = let p = standing in omega arith
 
-  pub stamps-place : (distance s 3 ≤ trailerAt s) × (stampsFrom 4 S s ≡ trailerAt s - distance s 3)
+  pub stamps-place : (distance s 3 ≤ trailerAt s) × (stampsFrom w S s ≡ trailerAt s - distance s 3)
   stamps-place = let p = standing in (omega arith, omega arith)
 
   -- a commit certificate lies inside, with its signatures
-  pub commit-inside : (distance s 4 ≡ 0 → ⊥) → commitEnd S s (commitFrom 4 S s) ≤ trailerAt s
+  pub commit-inside : (distance s 4 ≡ 0 → ⊥) → commitEnd S s (commitFrom w S s) ≤ trailerAt s
   commit-inside some = let e = standing .commit-end some in omega arith

@@ -13,9 +13,9 @@ use Rattle.submission.specs.Trailer.{trailerAt, leaderCount, distance}
 use Rattle.submission.specs.Reading.{certificatesEnd, commitEnd, leadersFrom, stampsFrom, commitFrom, laidOut}
 use Rattle.submission_parts.specs.Parts.{commitTests, leaderTests}
 
-module _ (S : ℕ) (s : List ℕ) (at : ℕ) where
-  -- ---- part 4 at a place
+-- ---- part 4 at a place
 
+module _ (S : ℕ) (s : List ℕ) (at : ℕ) where
   pub commit-elsewhere : (at + distance s 4 ≡ trailerAt s → ⊥) → false ≡ all (commitTests S s at)
   unfolding commitTests
   commit-elsewhere h = first-fails _ _ (ne-eqb _ _ h)
@@ -34,32 +34,33 @@ module _ (S : ℕ) (s : List ℕ) (at : ℕ) where
     commit-passes h beyond =
         rw (ne-eqb _ _ h, ne-eqb (commitEnd S s at) (trailerAt s) (λ e. omega arith)) (first-holds _ _ (eq-eqb _ _ here) (all-one false))
 
-  -- ---- part 2 at a place
+-- ---- part 2 at a place
 
-  pub stamps-elsewhere : (certificatesEnd 4 S s (leaderCount s) at + distance s 3 ≡ trailerAt s → ⊥) → false ≡ all (leaderTests S s at)
+module _ (w S : ℕ) (s : List ℕ) (at : ℕ) where
+  pub stamps-elsewhere : (certificatesEnd w S s (leaderCount s) at + distance s 3 ≡ trailerAt s → ⊥) → false ≡ all (leaderTests w S s at)
   unfolding leaderTests
   stamps-elsewhere h = first-fails _ _ (ne-eqb _ _ h)
 
-  pub leaders-pass : trailerAt s < certificatesEnd 4 S s (leaderCount s) at → false ≡ all (leaderTests S s at)
+  pub leaders-pass : trailerAt s < certificatesEnd w S s (leaderCount s) at → false ≡ all (leaderTests w S s at)
   leaders-pass beyond = stamps-elsewhere (λ e. omega arith)
 
-  pub stamps-here : certificatesEnd 4 S s (leaderCount s) at + distance s 3 ≡ trailerAt s
-      → {r : Bool} → r ≡ all (commitTests S s (certificatesEnd 4 S s (leaderCount s) at + leaderCount s * S)) → r ≡ all (leaderTests S s at)
+  pub stamps-here : certificatesEnd w S s (leaderCount s) at + distance s 3 ≡ trailerAt s
+      → {r : Bool} → r ≡ all (commitTests S s (certificatesEnd w S s (leaderCount s) at + leaderCount s * S)) → r ≡ all (leaderTests w S s at)
   unfolding leaderTests
   stamps-here h e = first-holds _ _ (eq-eqb _ _ h) e
 
 -- ---- all parts
 
-module _ (S : ℕ) (s : List ℕ) where
-  pub records-elsewhere : (distance s 1 ≡ trailerAt s → ⊥) → false ≡ laidOut 4 S s
+module _ (w S : ℕ) (s : List ℕ) where
+  pub records-elsewhere : (distance s 1 ≡ trailerAt s → ⊥) → false ≡ laidOut w S s
   unfolding laidOut
   records-elsewhere h = first-fails _ _ (ne-eqb _ _ h)
 
   module _ (first : distance s 1 ≡ trailerAt s) where
-    pub leaders-elsewhere : (leadersFrom 4 S s + distance s 2 ≡ trailerAt s → ⊥) → false ≡ laidOut 4 S s
+    pub leaders-elsewhere : (leadersFrom w S s + distance s 2 ≡ trailerAt s → ⊥) → false ≡ laidOut w S s
     unfolding laidOut
     leaders-elsewhere h = first-holds _ _ (eq-eqb _ _ first) (first-fails _ _ (ne-eqb _ _ h))
 
-    pub leaders-here : leadersFrom 4 S s + distance s 2 ≡ trailerAt s → {r : Bool} → r ≡ all (leaderTests S s (leadersFrom 4 S s)) → r ≡ laidOut 4 S s
+    pub leaders-here : leadersFrom w S s + distance s 2 ≡ trailerAt s → {r : Bool} → r ≡ all (leaderTests w S s (leadersFrom w S s)) → r ≡ laidOut w S s
     unfolding laidOut commitFrom stampsFrom leaderTests commitTests
     leaders-here h e = first-holds _ _ (eq-eqb _ _ first) (first-holds _ _ (eq-eqb _ _ h) e)

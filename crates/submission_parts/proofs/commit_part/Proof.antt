@@ -14,12 +14,12 @@ use Rattle.submission_parts.proofs.commit_part.Tie as tie
 returns : tie.Need-returns
 returns c =
     let a = c .before .before .before .args in
-    absent (a .size) (a .s .now) (omega arith)
+    absent (a .width) (a .size) (a .s .now) (omega arith)
 
 sub-at : tie.Need-sub-at
 sub-at c =
     let a = c .before .before .before .before .args in
-    let stands = standing (a .size) (a .s .now) (c .before .before .before .before .pre .1) in
+    let stands = standing (a .width) (a .size) (a .s .now) (c .before .before .before .before .pre .1) in
     omega arith
 
 returns-2 : tie.Need-returns-2
@@ -28,10 +28,10 @@ returns-2 c =
     let end = c .before .before .before .trailer-at .result in
     let back = c .before .before .before .before .before .distance .result in
     let laid = c .before .before .before .before .before .before .before .pre .1 in
-    let stands = standing (a .size) (a .s .now) laid in
-    let place : end - back ≡ commitFrom 4 (a .size) (a .s .now) = omega arith in
+    let stands = standing (a .width) (a .size) (a .s .now) laid in
+    let place : end - back ≡ commitFrom (a .width) (a .size) (a .s .now) = omega arith in
     let beyond = no-commit-passes (a .size) (a .s .now) (end - back) end (sym (c .before .before .read-commit .ensures .0) ∙ c .enum-told .given .1) in
-    let inside = commit-inside (a .size) (a .s .now) laid (λ e. c .before .before .before .before .if1 .left (omega arith)) in
+    let inside = commit-inside (a .width) (a .size) (a .s .now) laid (λ e. c .before .before .before .before .if1 .left (omega arith)) in
     absurd (omega (arith, rw place at beyond))
 
 returns-3 : tie.Need-returns-3
@@ -39,10 +39,10 @@ returns-3 c =
     let a = c .before .before .before .before .before .before .before .before .args in
     let end = c .before .before .before .before .trailer-at .result in
     let back = c .before .before .before .before .before .before .distance .result in
-    let stands = standing (a .size) (a .s .now) (c .before .before .before .before .before .before .before .before .pre .1) in
-    let place : end - back ≡ commitFrom 4 (a .size) (a .s .now) = omega arith in
+    let stands = standing (a .width) (a .size) (a .s .now) (c .before .before .before .before .before .before .before .before .pre .1) in
+    let place : end - back ≡ commitFrom (a .width) (a .size) (a .s .now) = omega arith in
     let says = commit-says (a .size) (a .s .now) (end - back) end (sym (c .before .before .before .read-commit .ensures .0) ∙ c .before .numbers .given .1) in
-    rw (says .0, place) (found (a .size) (a .s .now) (λ e. c .before .before .before .before .before .if1 .left (omega arith)))
+    rw (says .0, place) (found (a .width) (a .size) (a .s .now) (λ e. c .before .before .before .before .before .if1 .left (omega arith)))
 
 pub commit-part-spec : {M : Type 1} → statement M
 commit-part-spec =

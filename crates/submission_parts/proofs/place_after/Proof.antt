@@ -10,11 +10,11 @@ use Rattle.submission_parts.proofs.place_after.Statement.{statement}
 use Rattle.submission_parts.proofs.place_after.Tie as tie
 
 abbrev Inv-loop : tie.InvT-loop
-Inv-loop s count from end size at₀ left₀ at left =
-    (at ≤ end) × (certificatesEnd 4 size s left at ≡ certificatesEnd 4 size s count from)
+Inv-loop s count from end w size at₀ left₀ at left =
+    (at ≤ end) × (certificatesEnd w size s left at ≡ certificatesEnd w size s count from)
 
 abbrev μ-loop : tie.MeasureT-loop
-μ-loop s count from end size at₀ left₀ at left = left
+μ-loop s count from end w size at₀ left₀ at left = left
 
 loop-holds : tie.Need-loop-holds Inv-loop μ-loop
 loop-holds c = (omega arith, refl)
@@ -32,8 +32,8 @@ returns : tie.Need-returns Inv-loop μ-loop
 returns c =
     let a = c .before .before .before .before .before .before .args in
     let l = c .before .before .before .before .loop in
-    placed (a .size) (a .s .now) (a .count) (a .from) (a .end)
-    (passes (a .size) (a .s .now) (a .count) (a .from) (a .end) (l .left) (l .at) (l .inv .1) (omega arith)
+    placed (a .width) (a .size) (a .s .now) (a .count) (a .from) (a .end)
+    (passes (a .width) (a .size) (a .s .now) (a .count) (a .from) (a .end) (l .left) (l .at) (l .inv .1) (omega arith)
     (sym (c .before .before .read .ensures .0) ∙ c .enum-told .given .1))
 
 sub-left : tie.Need-sub-left Inv-loop μ-loop
@@ -46,15 +46,15 @@ loop-again : tie.Need-loop-again Inv-loop μ-loop
 loop-again c =
     let a = c .before .before .before .before .before .before .before .args in
     let l = c .before .before .before .before .before .loop in
-    next (a .size) (a .s .now) (a .count) (a .from) (a .end) (l .left) (l .at) (l .inv .1) (omega arith)
+    next (a .width) (a .size) (a .s .now) (a .count) (a .from) (a .end) (l .left) (l .at) (l .inv .1) (omega arith)
     (sym (c .before .before .before .read .ensures .0) ∙ c .before .next .given .1)
 
 returns-2 : tie.Need-returns-2 Inv-loop μ-loop
 returns-2 c =
     let a = c .before .before .before .args in
     let l = c .before .loop in
-    placed (a .size) (a .s .now) (a .count) (a .from) (a .end)
-    (arrives (a .size) (a .s .now) (a .count) (a .from) (a .end) (l .left) (l .at) (l .inv .1) (omega arith) (l .inv .0))
+    placed (a .width) (a .size) (a .s .now) (a .count) (a .from) (a .end)
+    (arrives (a .width) (a .size) (a .s .now) (a .count) (a .from) (a .end) (l .left) (l .at) (l .inv .1) (omega arith) (l .inv .0))
 
 pub place-after-spec : {M : Type 1} → statement M
 place-after-spec =

@@ -14,21 +14,21 @@ returns c =
     let a = c .before .before .before .before .before .before .args in
     let lead = c .before .before .before .leader-count .ensures .0 in
     let e = sym (c .before .before .place-after .ensures .0) ∙ c .enum-told .given .1 in
-    leaders-pass (a .size) (a .s .now) (a .from) (rw (lead, c .before .before .before .before .trailer-at .ensures) at (beyond-passes (a .size) (a .s .now) _ (a .from) _ e))
+    leaders-pass (a .width) (a .size) (a .s .now) (a .from) (rw (lead, c .before .before .before .before .trailer-at .ensures) at (beyond-passes (a .width) (a .size) (a .s .now) _ (a .from) _ e))
 
 add-if1 : tie.Need-add-if1
 add-if1 c =
     let a = c .before .before .before .before .before .before .before .before .args in
-    let says = place-says (a .size) (a .s .now) _ (a .from) _ _ (sym (c .before .before .before .before .place-after .ensures .0) ∙ c .before .before .stamps .given .1) in
+    let says = place-says (a .width) (a .size) (a .s .now) _ (a .from) _ _ (sym (c .before .before .before .before .place-after .ensures .0) ∙ c .before .before .stamps .given .1) in
     omega arith
 
 returns-2 : tie.Need-returns-2
 returns-2 c =
     let a = c .before .before .before .before .before .before .before .before .before .args in
-    let says = place-says (a .size) (a .s .now) _ (a .from) _ _ (sym (c .before .before .before .before .before .place-after .ensures .0) ∙ c .before .before .before .stamps .given .1) in
+    let says = place-says (a .width) (a .size) (a .s .now) _ (a .from) _ _ (sym (c .before .before .before .before .before .place-after .ensures .0) ∙ c .before .before .before .stamps .given .1) in
     let lead = c .before .before .before .before .before .before .leader-count .ensures .0 in
     let here = rw lead at (says .0) in
-    stamps-elsewhere (a .size) (a .s .now) (a .from) (λ e. c .if1 .taken (omega arith))
+    stamps-elsewhere (a .width) (a .size) (a .s .now) (a .from) (λ e. c .if1 .taken (omega arith))
 
 mul-commit-stands : tie.Need-mul-commit-stands
 mul-commit-stands c =
@@ -39,25 +39,25 @@ mul-commit-stands c =
 add-commit-stands : tie.Need-add-commit-stands
 add-commit-stands c =
     let a = c .before .before .before .before .before .before .before .before .before .args in
-    let says = place-says (a .size) (a .s .now) _ (a .from) _ _ (sym (c .before .before .before .before .before .place-after .ensures .0) ∙ c .before .before .before .stamps .given .1) in
+    let says = place-says (a .width) (a .size) (a .s .now) _ (a .from) _ _ (sym (c .before .before .before .before .before .place-after .ensures .0) ∙ c .before .before .before .stamps .given .1) in
     let few = stamps-le (c .before .before .before .before .before .before .leader-count .result) (a .size) (omega arith) (c .before .before .before .before .before .before .before .before .before .pre .0 .signature) in
     omega arith
 
 commit-stands-requires : tie.Need-commit-stands-requires
 commit-stands-requires c κs =
     let a = c .before .before .before .before .before .before .before .before .before .args in
-    let says = place-says (a .size) (a .s .now) _ (a .from) _ _ (sym (c .before .before .before .before .before .place-after .ensures .0) ∙ c .before .before .before .stamps .given .1) in
+    let says = place-says (a .width) (a .size) (a .s .now) _ (a .from) _ _ (sym (c .before .before .before .before .before .place-after .ensures .0) ∙ c .before .before .before .stamps .given .1) in
     let few = stamps-le (c .before .before .before .before .before .before .leader-count .result) (a .size) (omega arith) (c .before .before .before .before .before .before .before .before .before .pre .0 .signature) in
     let p = c .before .before .before .before .before .before .before .before .before .pre in
-    (p .0, omega arith)
+    (p .0 .long, p .0 .short, p .0 .signature, omega arith)
 
 returns-3 : tie.Need-returns-3
 returns-3 c =
     let a = c .before .before .before .before .before .before .before .before .before .before .args in
-    let says = place-says (a .size) (a .s .now) _ (a .from) _ _ (sym (c .before .before .before .before .before .before .place-after .ensures .0) ∙ c .before .before .before .before .stamps .given .1) in
+    let says = place-says (a .width) (a .size) (a .s .now) _ (a .from) _ _ (sym (c .before .before .before .before .before .before .place-after .ensures .0) ∙ c .before .before .before .before .stamps .given .1) in
     let lead = c .before .before .before .before .before .before .before .leader-count .ensures .0 in
     let here = rw lead at (says .0) in
-    stamps-here (a .size) (a .s .now) (a .from) (omega arith) (rw (← here, ← lead) (c .commit-stands .ensures))
+    stamps-here (a .width) (a .size) (a .s .now) (a .from) (omega arith) (rw (← here, ← lead) (c .commit-stands .ensures))
 
 pub leaders-stand-spec : {M : Type 1} → statement M
 leaders-stand-spec =
