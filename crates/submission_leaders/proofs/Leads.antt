@@ -11,9 +11,9 @@ use lib.ListN.{length}
 use Rattle.words.specs.BigEndian.{same}
 use Rattle.refusal.specs.Checks.{all}
 use Rattle.roster.specs.Masks.{signer}
-use Rattle.log_chain.specs.Log.{version1, Record, pointer, lastTerm}
+use Rattle.log_chain.specs.Log.{withTerms, Record, pointer, lastTerm}
 use Rattle.log_chain.specs.Claim.{Ballot}
-use Rattle.log_chain.proofs.Pointers.{pointer-name}
+use Rattle.log_chain.proofs.Pointers.{pointer-form}
 use Rattle.log_chain.specs.Runs.{run}
 use Rattle.submission.specs.View.{Certificate}
 use Rattle.submission.specs.Validate.{leading}
@@ -62,27 +62,27 @@ module _ (n signers k : ℕ) where
 
 -- ---- one certificate
 
-module _ (name : List ℕ) (n : ℕ) (c : Certificate) (before upto : List Record) (stamp : List ℕ) where
-  pub wrong-term : (c .ballot .term ≡ lastTerm upto → ⊥) → false ≡ leading (version1 name) n (record { certificate = c; term = run before upto; stamp = stamp })
+module _ (w : ℕ) (name : List ℕ) (n : ℕ) (c : Certificate) (before upto : List Record) (stamp : List ℕ) where
+  pub wrong-term : (c .ballot .term ≡ lastTerm upto → ⊥) → false ≡ leading (withTerms w name) n (record { certificate = c; term = run before upto; stamp = stamp })
   unfolding leading run all
   wrong-term h = rw (ne-eqb _ _ h)
 
-  module _ (p : List ℕ) (pointed : p ≡ pointer (version1 []) before) (term : c .ballot .term ≡ lastTerm upto) where
+  module _ (p : List ℕ) (pointed : p ≡ pointer (withTerms w []) before) (term : c .ballot .term ≡ lastTerm upto) where
     in-parts : cond (follows (c .ballot) before p) (elected n (c .signers) (c .ballot .candidate)) false
-        ≡ leading (version1 name) n (record { certificate = c; term = run before upto; stamp = stamp })
+        ≡ leading (withTerms w name) n (record { certificate = c; term = run before upto; stamp = stamp })
     unfolding leading follows elected run all
     in-parts =
         let b = c .ballot in
-        rw (eq-eqb _ _ term, pointed ∙ pointer-name [] name before)
+        rw (eq-eqb _ _ term, pointed ∙ pointer-form (withTerms w []) (withTerms w name) refl before)
         (three
         (eqb (b .lastTerm) (lastTerm before))
         (eqb (b .lastIndex) (length before))
-        (same (b .lastPointer) (pointer (version1 name) before))
+        (same (b .lastPointer) (pointer (withTerms w name) before))
         (elected n (c .signers) (b .candidate)))
 
-    pub wrong-last : follows (c .ballot) before p ≡ false → false ≡ leading (version1 name) n (record { certificate = c; term = run before upto; stamp = stamp })
+    pub wrong-last : follows (c .ballot) before p ≡ false → false ≡ leading (withTerms w name) n (record { certificate = c; term = run before upto; stamp = stamp })
     wrong-last h = rw h at in-parts
 
     pub by-election : follows (c .ballot) before p ≡ true
-        → elected n (c .signers) (c .ballot .candidate) ≡ leading (version1 name) n (record { certificate = c; term = run before upto; stamp = stamp })
+        → elected n (c .signers) (c .ballot .candidate) ≡ leading (withTerms w name) n (record { certificate = c; term = run before upto; stamp = stamp })
     by-election h = rw h at in-parts

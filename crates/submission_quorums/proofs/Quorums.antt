@@ -25,35 +25,35 @@ use Rattle.submission_parts.proofs.Readings.{refused-passes, read-says}
 
 -- ---- the leader certificates that are left, and whose answer is b
 
-masks-first : (S : ℕ) (s : List ℕ) (n left at : ℕ) → 0 < left
-    → every (quorate n) (leaderMasks S s left at)
-    ≡ cond (quorate n (signersAt s (at + ballotSize 4))) (every (quorate n) (leaderMasks S s (left - 1) (certificateEnd 4 S s at))) false
+masks-first : (w S : ℕ) (s : List ℕ) (n left at : ℕ) → 0 < left
+    → every (quorate n) (leaderMasks w S s left at)
+    ≡ cond (quorate n (signersAt s (at + ballotSize w))) (every (quorate n) (leaderMasks w S s (left - 1) (certificateEnd w S s at))) false
 unfolding leaderMasks certificateAt every
-masks-first S s n left at more =
-    ap (λ (cs : List Certificate). every (quorate n) (map (λ c. c .signers) cs)) (certificates-first 4 S s left at more)
+masks-first w S s n left at more =
+    ap (λ (cs : List Certificate). every (quorate n) (map (λ c. c .signers) cs)) (certificates-first w S s left at more)
 
-module _ (S : ℕ) (s : List ℕ) (n left at end : ℕ) {b : Bool} (rest : every (quorate n) (leaderMasks S s left at) ≡ b) where
-  module _ (more : 0 < left) (inside : certificatesEnd 4 S s left at ≤ end) where
-    pub never-refused : reading S s at end ≡ Refused → false ≡ b
+module _ (w S : ℕ) (s : List ℕ) (n left at end : ℕ) {b : Bool} (rest : every (quorate n) (leaderMasks w S s left at) ≡ b) where
+  module _ (more : 0 < left) (inside : certificatesEnd w S s left at ≤ end) where
+    pub never-refused : reading w S s at end ≡ Refused → false ≡ b
     never-refused e =
-        let first = end-first 4 S s left at more in
-        absurd (omega (arith, refused-passes S s at end e, certificates-from 4 S s (left - 1) (certificateEnd 4 S s at)))
+        let first = end-first w S s left at more in
+        absurd (omega (arith, refused-passes w S s at end e, certificates-from w S s (left - 1) (certificateEnd w S s at)))
 
-    module _ {c : Numbers} {next : ℕ} (told : reading S s at end ≡ Read c next) {r : Bool} (asked : r ≡ quorate n (c .signers)) where
-      first-mask : cond r (every (quorate n) (leaderMasks S s (left - 1) next)) false ≡ b
+    module _ {c : Numbers} {next : ℕ} (told : reading w S s at end ≡ Read c next) {r : Bool} (asked : r ≡ quorate n (c .signers)) where
+      first-mask : cond r (every (quorate n) (leaderMasks w S s (left - 1) next)) false ≡ b
       unfolding numbersAt
       first-mask =
-          let says = read-says S s at end told in
-          rw (asked, says .0, says .1) (sym (masks-first S s n left at more) ∙ rest)
+          let says = read-says w S s at end told in
+          rw (asked, says .0, says .1) (sym (masks-first w S s n left at more) ∙ rest)
 
       pub too-few : not r ≡ true → false ≡ b
       too-few e = rw (not-true r e) at first-mask
 
       pub enough : not r ≡ false
-          → (certificatesEnd 4 S s (left - 1) next ≤ end) × (every (quorate n) (leaderMasks S s (left - 1) next) ≡ b)
+          → (certificatesEnd w S s (left - 1) next ≤ end) × (every (quorate n) (leaderMasks w S s (left - 1) next) ≡ b)
       enough e =
-          let says = read-says S s at end told in
-          (rw (says .1, ← end-first 4 S s left at more) inside, rw (not-false r e) at first-mask)
+          let says = read-says w S s at end told in
+          (rw (says .1, ← end-first w S s left at more) inside, rw (not-false r e) at first-mask)
 
   pub all-enough : left ≤ 0 → true ≡ b
   unfolding leaderMasks certificates every
@@ -61,29 +61,29 @@ module _ (S : ℕ) (s : List ℕ) (n left at end : ℕ) {b : Bool} (rest : every
 
 -- ---- every certificate
 
-module _ (S : ℕ) (s : List ℕ) (n : ℕ) where
-  pub commit-signers : {c : Commit} {at : ℕ} → commitPart S s ≡ Found c at → quorate n (c .signers) ≡ every (quorate n) (commitSigners (commitOf 4 S s))
+module _ (w S : ℕ) (s : List ℕ) (n : ℕ) where
+  pub commit-signers : {c : Commit} {at : ℕ} → commitPart w S s ≡ Found c at → quorate n (c .signers) ≡ every (quorate n) (commitSigners (commitOf w S s))
   unfolding commitSigners commitNumbersAt every
   commit-signers {c} {at} e =
-      let says = found-says S s e in
+      let says = found-says w S s e in
       rw (says .2, says .0) (one (quorate n (commitAt s at .signers)))
     where
       one : (b : Bool) → b ≡ cond b true false
       one true = refl
       one false = refl
 
-  pub no-signers : commitPart S s ≡ Absent → true ≡ every (quorate n) (commitSigners (commitOf 4 S s))
+  pub no-signers : commitPart w S s ≡ Absent → true ≡ every (quorate n) (commitSigners (commitOf w S s))
   unfolding commitSigners every
-  no-signers e = rw (absent-says S s e)
+  no-signers e = rw (absent-says w S s e)
 
-  all-masks : every (quorate n) (masks (view 4 S s))
-      ≡ cond (every (quorate n) (leaderMasks S s (leaderCount s) (leadersFrom 4 S s))) (every (quorate n) (commitSigners (commitOf 4 S s))) false
+  all-masks : every (quorate n) (masks (view w S s))
+      ≡ cond (every (quorate n) (leaderMasks w S s (leaderCount s) (leadersFrom w S s))) (every (quorate n) (commitSigners (commitOf w S s))) false
   unfolding masks view leaderMasks
   all-masks = every-append (quorate n) _ _
 
-  pub leaders-fail : every (quorate n) (leaderMasks S s (leaderCount s) (leadersFrom 4 S s)) ≡ false → false ≡ every (quorate n) (masks (view 4 S s))
+  pub leaders-fail : every (quorate n) (leaderMasks w S s (leaderCount s) (leadersFrom w S s)) ≡ false → false ≡ every (quorate n) (masks (view w S s))
   leaders-fail e = sym (rw e at all-masks)
 
-  pub leaders-hold : every (quorate n) (leaderMasks S s (leaderCount s) (leadersFrom 4 S s)) ≡ true
-      → every (quorate n) (commitSigners (commitOf 4 S s)) ≡ every (quorate n) (masks (view 4 S s))
+  pub leaders-hold : every (quorate n) (leaderMasks w S s (leaderCount s) (leadersFrom w S s)) ≡ true
+      → every (quorate n) (commitSigners (commitOf w S s)) ≡ every (quorate n) (masks (view w S s))
   leaders-hold e = sym (rw e at all-masks)

@@ -2,13 +2,13 @@
 -- Assumes nothing.
 use mathlib.Core.Path.{_≡_, sym, ap, _∙_}
 use mathlib.Core.List.{List, []}
-use Prim.Native.Nat.{ℕ, _-_, _≤_, _<_}
-use native.Mathlib.Nat.{le-trans}
+use Prim.Native.Nat.{ℕ, _-_, _*_, _≤_, _<_}
+use native.Mathlib.Nat.{le-trans, mul-le-mul-left}
 use native.Mathlib.Omega.{arith}
 use lib.ListN.{length, drop}
 use Rattle.sha256.specs.Sha256.{bytesOf}
 use Rattle.refusal.specs.Checks.{every}
-use Rattle.log_chain.specs.Log.{version1, pointer}
+use Rattle.log_chain.specs.Log.{withTerms, pointer}
 use Rattle.log_chain.specs.Runs.{runs}
 use Rattle.submission.specs.View.{leadsOf}
 use Rattle.log_chain.specs.Records.{recordSize, recordsOf}
@@ -22,54 +22,57 @@ use Rattle.submission_leaders.proofs.leaders_match_log.Statement.{state
 use Rattle.submission_leaders.proofs.leaders_match_log.Tie as tie
 
 abbrev Inv-loop : tie.InvT-loop
-Inv-loop s n size records leaders at left₀ place₀ i₀ before₀ left place i before =
-    (left ≤ leaders) × (i ≤ records) × (left ≡ length (runsLeft 4 records i s)) × (certificatesEnd 4 size s left place ≤ length s)
-    × (bytesOf before ≡ pointer (version1 []) (recordsOf 4 i s))
+Inv-loop s n w size records leaders at left₀ place₀ i₀ before₀ left place i before =
+    (left ≤ leaders) × (i ≤ records) × (left ≡ length (runsLeft w records i s)) × (certificatesEnd w size s left place ≤ length s)
+    × (bytesOf before ≡ pointer (withTerms w []) (recordsOf w i s))
     × ((name : List ℕ) (stamps : List (List ℕ)) → length stamps ≡ leaders
-    → every (leading (version1 name) n) (leadsOf (certificates 4 size s left place) (runsLeft 4 records i s) (drop (leaders - left) stamps))
-    ≡ every (leading (version1 name) n) (leadsOf (certificates 4 size s leaders at) (runs (recordsOf 4 records s)) stamps))
+    → every (leading (withTerms w name) n) (leadsOf (certificates w size s left place) (runsLeft w records i s) (drop (leaders - left) stamps))
+    ≡ every (leading (withTerms w name) n) (leadsOf (certificates w size s leaders at) (runs (recordsOf w records s)) stamps))
 
 abbrev μ-loop : tie.MeasureT-loop
-μ-loop s n size records leaders at left₀ place₀ i₀ before₀ left place i before = left
+μ-loop s n w size records leaders at left₀ place₀ i₀ before₀ left place i before = left
 
 loop-holds : tie.Need-loop-holds Inv-loop μ-loop
 unfolding recordsOf
 loop-holds c =
     let start = c .before .before in
     let a = start .args in
-    let all = runs-all 4 (a .records) (a .s .now) in
+    let all = runs-all (a .width) (a .records) (a .s .now) in
     let none : a .leaders - a .leaders ≡ 0 = omega arith in
-    (omega arith, omega arith, start .pre .2 ∙ ap length (sym all), start .pre .3, c .pointer-zero .ensures, (λ name stamps e. rw (none, all)))
+    (omega arith, omega arith, start .pre .3 ∙ ap length (sym all), start .pre .4, c .pointer-zero .ensures (a .width), (λ name stamps e. rw (none, all)))
 
 next-run-requires : tie.Need-next-run-requires Inv-loop μ-loop
 next-run-requires c κs =
     let start = c .before .before .before .before in
     let l = c .before .loop in
     let a = start .args in
-    (runs-some 4 (a .records) (l .i) (a .s .now) (omega arith), omega (arith, start .pre .0), start .pre .1, l .inv .4)
+    (start .pre .0, runs-some (a .width) (a .records) (l .i) (a .s .now) (omega arith), omega (arith, start .pre .1), start .pre .2, l .inv .4)
 
 leading-requires : tie.Need-leading-requires Inv-loop μ-loop
-unfolding recordSize
 leading-requires c κs =
     let l = c .before .before .loop in
-    let a = c .before .before .before .before .before .args in
+    let start = c .before .before .before .before .before in
+    let a = start .args in
     let s = a .s .now in
-    let inside = first-inside 4 (a .size) s (l .left) (l .place) (omega (arith, c .before .loop-test .taken)) (l .inv .3) in
-    (le-trans (certificate-head 4 (a .size) s (l .place)) inside, omega arith, omega (arith, c .next-run .ensures .0 .1), l .inv .4)
+    let room : (i : ℕ) → i ≤ a .records → recordSize (a .width) * i ≤ length s = λ i h. le-trans (mul-le-mul-left (recordSize (a .width)) h) (start .pre .2) in
+    let inside = first-inside (a .width) (a .size) s (l .left) (l .place) (omega (arith, c .before .loop-test .taken)) (l .inv .3) in
+    (start .pre .0, le-trans (certificate-head (a .width) (a .size) s (l .place)) inside, room (l .i) (l .inv .1), room _ (c .next-run .ensures .0 .1), l .inv .4)
 
 returns : tie.Need-returns Inv-loop μ-loop
 returns c name stamps e =
     let l = c .before .before .before .before .loop in
     let a = c .before .before .before .before .before .before .before .args in
-    lead-fails 4 (a .size) (a .s .now) (leading (version1 name) (a .n)) (l .left) (l .place) (runsLeft 4 (a .records) (l .i) (a .s .now)) (a .leaders) stamps
+    lead-fails (a .width) (a .size) (a .s .now) (leading (withTerms (a .width) name) (a .n)) (l .left) (l .place) (runsLeft (a .width) (a .records) (l .i) (a .s .now)) (a .leaders) stamps
     (l .inv .5 name stamps e) (omega (arith, c .before .before .before .loop-test .taken)) (l .inv .0) e _ _ (c .before .before .next-run .ensures .1 .1)
     (c .before .leading .ensures name) (c .if1 .taken)
 
 certificate-end-requires : tie.Need-certificate-end-requires Inv-loop μ-loop
 certificate-end-requires c κs =
-    let l = c .before .before .before .before .loop in
-    let a = c .before .before .before .before .before .before .before .args in
-    first-inside 4 (a .size) (a .s .now) (l .left) (l .place) (omega (arith, c .before .before .before .loop-test .taken)) (l .inv .3)
+    let looped = c .before .before .before .before in
+    let l = looped .loop in
+    let start = looped .before .before .before in
+    let a = start .args in
+    (start .pre .0, first-inside (a .width) (a .size) (a .s .now) (l .left) (l .place) (omega (arith, c .before .before .before .loop-test .taken)) (l .inv .3))
 
 sub-left : tie.Need-sub-left Inv-loop μ-loop
 sub-left c = omega (arith, c .before .before .before .before .before .loop-test .taken)
@@ -88,11 +91,11 @@ loop-again c =
       omega arith,
       walked .0 .1,
       omega (arith, l .inv .2, ap length (walked .1 .1)),
-      rw place (rest-inside 4 (a .size) s (l .left) (l .place) more (l .inv .3)),
+      rw place (rest-inside (a .width) (a .size) s (l .left) (l .place) more (l .inv .3)),
       walked .1 .0,
       (λ name stamps e.
           rw place
-          (lead-next 4 (a .size) s (leading (version1 name) (a .n)) (l .left) (l .place) (runsLeft 4 (a .records) (l .i) s) (a .leaders) stamps
+          (lead-next (a .width) (a .size) s (leading (withTerms (a .width) name) (a .n)) (l .left) (l .place) (runsLeft (a .width) (a .records) (l .i) s) (a .leaders) stamps
           (l .inv .5 name stamps e) more (l .inv .0) e _ _ (walked .1 .1) (c .before .before .before .leading .ensures name) (c .before .before .if1 .left))),
     )
 
@@ -100,7 +103,7 @@ returns-2 : tie.Need-returns-2 Inv-loop μ-loop
 returns-2 c name stamps e =
     let l = c .before .loop in
     let a = c .before .before .before .before .args in
-    led 4 (a .size) (a .s .now) (leading (version1 name) (a .n)) (l .left) (l .place) (runsLeft 4 (a .records) (l .i) (a .s .now)) (a .leaders) stamps
+    led (a .width) (a .size) (a .s .now) (leading (withTerms (a .width) name) (a .n)) (l .left) (l .place) (runsLeft (a .width) (a .records) (l .i) (a .s .now)) (a .leaders) stamps
     (l .inv .5 name stamps e) (omega (arith, c .loop-test .left))
 
 pub leaders-match-log-spec : {M : Type 1} → statement M

@@ -12,17 +12,17 @@ use Rattle.submission_leaders.proofs.Leads.{wrong-term, wrong-last, by-
 use Rattle.submission_leaders.proofs.leading.Statement.{statement}
 use Rattle.submission_leaders.proofs.leading.Tie as tie
 
-u32-at-requires : tie.Need-u32-at-requires
+number-at-requires : tie.Need-number-at-requires
 unfolding ballotSize
-u32-at-requires c κs = omega arith
+number-at-requires c κs = let start = c .before in (omega (arith, start .pre .1), start .pre .0)
 
 returns : tie.Need-returns
 unfolding certificateAt
 returns c name stamp =
     let a = c .before .before .before .before .args in
     let s = a .s .now in
-    let term = c .before .before .u32-at .ensures .0 ∙ term-at s (a .at) in
-    wrong-term name (a .n) (certificateAt 4 s (a .at)) (recordsOf 4 (a .i) s) (recordsOf 4 (a .end) s) stamp
+    let term = c .before .before .number-at .ensures .0 ∙ term-at (a .width) s (a .at) in
+    wrong-term (a .width) name (a .n) (certificateAt (a .width) s (a .at)) (recordsOf (a .width) (a .i) s) (recordsOf (a .width) (a .end) s) stamp
     (λ e. c .if1 .taken (term ∙ e ∙ sym (c .before .last-term .ensures)))
 
 returns-2 : tie.Need-returns-2
@@ -31,8 +31,8 @@ returns-2 c name stamp =
     let start = c .before .before .before .before .before .before in
     let a = start .args in
     let s = a .s .now in
-    let term = sym (c .before .before .before .before .u32-at .ensures .0 ∙ term-at s (a .at)) ∙ c .before .before .if1 .left ∙ c .before .before .before .last-term .ensures in
-    wrong-last name (a .n) (certificateAt 4 s (a .at)) (recordsOf 4 (a .i) s) (recordsOf 4 (a .end) s) stamp (bytesOf (a .before)) (start .pre .3) term
+    let term = sym (c .before .before .before .before .number-at .ensures .0 ∙ term-at (a .width) s (a .at)) ∙ c .before .before .if1 .left ∙ c .before .before .before .last-term .ensures in
+    wrong-last (a .width) name (a .n) (certificateAt (a .width) s (a .at)) (recordsOf (a .width) (a .i) s) (recordsOf (a .width) (a .end) s) stamp (bytesOf (a .before)) (start .pre .4) term
     (sym (c .before .follows .ensures) ∙ not-true _ (c .if2 .taken))
 
 returns-3 : tie.Need-returns-3
@@ -41,9 +41,9 @@ returns-3 c name stamp =
     let start = c .before .before .before .before .before .before .before in
     let a = start .args in
     let s = a .s .now in
-    let term = sym (c .before .before .before .before .before .u32-at .ensures .0 ∙ term-at s (a .at)) ∙ c .before .before .before .if1 .left ∙ c .before .before .before .before .last-term .ensures in
+    let term = sym (c .before .before .before .before .before .number-at .ensures .0 ∙ term-at (a .width) s (a .at)) ∙ c .before .before .before .if1 .left ∙ c .before .before .before .before .last-term .ensures in
     c .elected .ensures
-    ∙ by-election name (a .n) (certificateAt 4 s (a .at)) (recordsOf 4 (a .i) s) (recordsOf 4 (a .end) s) stamp (bytesOf (a .before)) (start .pre .3) term
+    ∙ by-election (a .width) name (a .n) (certificateAt (a .width) s (a .at)) (recordsOf (a .width) (a .i) s) (recordsOf (a .width) (a .end) s) stamp (bytesOf (a .before)) (start .pre .4) term
     (sym (c .before .before .follows .ensures) ∙ not-false _ (c .before .if2 .left))
 
 pub leading-spec : {M : Type 1} → statement M
@@ -51,7 +51,7 @@ leading-spec =
     tie.close
     (tie.spec
     (λ c. search needs)
-    u32-at-requires
+    number-at-requires
     (λ c κs. search needs)
     returns
     (λ c κs. search needs)

@@ -15,22 +15,22 @@ unfolding leadersFrom
 leaders-quorate-requires c κs =
     let p = c .before .before .before .before .pre in
     let a = c .before .before .before .before .args in
-    let inside = leaders-inside (a .size) (a .s .now) (p .3) in
-    (p .0, p .1, omega arith, p .2 .short, p .2 .signature, rw (c .leader-count .ensures .0, c .before .leaders-from .ensures, c .before .before .trailer-at .ensures) inside)
+    let inside = leaders-inside (a .width) (a .size) (a .s .now) (p .3) in
+    (p .0, p .1, omega arith, p .2 .short, p .2 .width, p .2 .signature, rw (c .leader-count .ensures .0, c .before .leaders-from .ensures, c .before .before .trailer-at .ensures) inside)
 
 returns : tie.Need-returns
 unfolding leadersFrom
 returns c =
     let a = c .before .before .before .before .before .before .args in
     let masks = rw (c .before .before .leader-count .ensures .0, c .before .before .before .leaders-from .ensures) at (c .before .leaders-quorate .ensures) in
-    leaders-fail (a .size) (a .s .now) (a .n) (sym masks ∙ not-true _ (c .if1 .taken))
+    leaders-fail (a .width) (a .size) (a .s .now) (a .n) (sym masks ∙ not-true _ (c .if1 .taken))
 
 returns-2 : tie.Need-returns-2
 unfolding leadersFrom
 returns-2 c =
     let a = c .before .before .before .before .before .before .before .args in
     let masks = rw (c .before .before .before .leader-count .ensures .0, c .before .before .before .before .leaders-from .ensures) at (c .before .before .leaders-quorate .ensures) in
-    c .commit-quorate .ensures ∙ leaders-hold (a .size) (a .s .now) (a .n) (sym masks ∙ not-false _ (c .before .if1 .left))
+    c .commit-quorate .ensures ∙ leaders-hold (a .width) (a .size) (a .s .now) (a .n) (sym masks ∙ not-false _ (c .before .if1 .left))
 
 pub all-signers-quorate-spec : {M : Type 1} → statement M
 all-signers-quorate-spec =

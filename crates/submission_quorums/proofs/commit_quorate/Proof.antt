@@ -9,12 +9,12 @@ use Rattle.submission_quorums.proofs.commit_quorate.Tie as tie
 returns : tie.Need-returns
 returns c =
     let a = c .before .before .before .before .args in
-    no-signers (a .size) (a .s .now) (a .n) (sym (c .before .before .commit-part .ensures) ∙ c .enum-told .given .1)
+    no-signers (a .width) (a .size) (a .s .now) (a .n) (sym (c .before .before .commit-part .ensures) ∙ c .enum-told .given .1)
 
 returns-2 : tie.Need-returns-2
 returns-2 c =
     let a = c .before .before .before .before .before .before .args in
-    c .mask-quorate .ensures ∙ commit-signers (a .size) (a .s .now) (a .n) (sym (c .before .before .before .before .commit-part .ensures) ∙ c .before .before .commit .given .1)
+    c .mask-quorate .ensures ∙ commit-signers (a .width) (a .size) (a .s .now) (a .n) (sym (c .before .before .before .before .commit-part .ensures) ∙ c .before .before .commit .given .1)
 
 pub commit-quorate-spec : {M : Type 1} → statement M
 commit-quorate-spec =

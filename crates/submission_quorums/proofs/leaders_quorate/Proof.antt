@@ -14,21 +14,21 @@ use Rattle.submission_quorums.proofs.leaders_quorate.Statement.{stateme
 use Rattle.submission_quorums.proofs.leaders_quorate.Tie as tie
 
 abbrev Inv-loop : tie.InvT-loop
-Inv-loop s n count from end size at₀ left₀ at left =
-    (certificatesEnd 4 size s left at ≤ end) × (every (quorate n) (leaderMasks size s left at) ≡ every (quorate n) (leaderMasks size s count from))
+Inv-loop s n count from end w size at₀ left₀ at left =
+    (certificatesEnd w size s left at ≤ end) × (every (quorate n) (leaderMasks w size s left at) ≡ every (quorate n) (leaderMasks w size s count from))
 
 abbrev μ-loop : tie.MeasureT-loop
-μ-loop s n count from end size at₀ left₀ at left = left
+μ-loop s n count from end w size at₀ left₀ at left = left
 
 loop-holds : tie.Need-loop-holds Inv-loop μ-loop
-loop-holds c = (c .before .pre .5, refl)
+loop-holds c = (c .before .pre .6, refl)
 
 read-requires : tie.Need-read-requires Inv-loop μ-loop
 read-requires c κs =
     let a = c .before .before .before .args in
     let l = c .before .loop in
     let p = c .before .before .before .pre in
-    (omega (arith, certificates-from 4 (a .size) (a .s .now) (l .left) (l .at)), p .2, p .3, p .4)
+    (omega (arith, certificates-from (a .width) (a .size) (a .s .now) (l .left) (l .at)), p .2, p .3, p .4, p .5)
 
 enum-known-c : tie.Need-enum-known-c Inv-loop μ-loop
 enum-known-c c = search needs
@@ -40,7 +40,7 @@ returns : tie.Need-returns Inv-loop μ-loop
 returns c =
     let a = c .before .before .before .before .before .before .args in
     let l = c .before .before .before .before .loop in
-    never-refused (a .size) (a .s .now) (a .n) (l .left) (l .at) (a .end) (l .inv .1) (omega arith) (l .inv .0)
+    never-refused (a .width) (a .size) (a .s .now) (a .n) (l .left) (l .at) (a .end) (l .inv .1) (omega arith) (l .inv .0)
     (sym (c .before .before .read .ensures .0) ∙ c .enum-told .given .1)
 
 mask-quorate-requires : tie.Need-mask-quorate-requires Inv-loop μ-loop
@@ -50,7 +50,7 @@ returns-2 : tie.Need-returns-2 Inv-loop μ-loop
 returns-2 c =
     let a = c .before .before .before .before .before .before .before .before .before .args in
     let l = c .before .before .before .before .before .before .before .loop in
-    too-few (a .size) (a .s .now) (a .n) (l .left) (l .at) (a .end) (l .inv .1) (omega arith) (l .inv .0)
+    too-few (a .width) (a .size) (a .s .now) (a .n) (l .left) (l .at) (a .end) (l .inv .1) (omega arith) (l .inv .0)
     (sym (c .before .before .before .before .before .read .ensures .0) ∙ c .before .before .before .c .given .1)
     (c .before .mask-quorate .ensures)
     (c .if1 .taken)
@@ -65,7 +65,7 @@ loop-again : tie.Need-loop-again Inv-loop μ-loop
 loop-again c =
     let a = c .before .before .before .before .before .before .before .before .before .args in
     let l = c .before .before .before .before .before .before .before .loop in
-    enough (a .size) (a .s .now) (a .n) (l .left) (l .at) (a .end) (l .inv .1) (omega arith) (l .inv .0)
+    enough (a .width) (a .size) (a .s .now) (a .n) (l .left) (l .at) (a .end) (l .inv .1) (omega arith) (l .inv .0)
     (sym (c .before .before .before .before .before .read .ensures .0) ∙ c .before .before .before .c .given .1)
     (c .before .mask-quorate .ensures)
     (c .if1 .left)
@@ -74,7 +74,7 @@ returns-3 : tie.Need-returns-3 Inv-loop μ-loop
 returns-3 c =
     let a = c .before .before .before .args in
     let l = c .before .loop in
-    all-enough (a .size) (a .s .now) (a .n) (l .left) (l .at) (a .end) (l .inv .1) (omega arith)
+    all-enough (a .width) (a .size) (a .s .now) (a .n) (l .left) (l .at) (a .end) (l .inv .1) (omega arith)
 
 pub leaders-quorate-spec : {M : Type 1} → statement M
 leaders-quorate-spec =
