@@ -12,12 +12,16 @@ use Rattle.lm_digits.specs.declared.OneTime.the-variants.{Known, Unknown
 unfoldable pub row : ℕ → ℕ → ℕ → Parameters
 row w p ls = record { bits = w; chains = p; shift = ls }
 
+-- type 4: a digit a byte
+abbrev pub byteDigits : Parameters
+byteDigits = row 8 34 0
+
 -- the table by type number
 unfoldable pub oneTime : ℕ → OneTime
 oneTime number =
     cond (eqb number 1) (Known (row 1 265 7))
     (cond (eqb number 2) (Known (row 2 133 6))
-    (cond (eqb number 3) (Known (row 4 67 4)) (cond (eqb number 4) (Known (row 8 34 0)) Unknown)))
+    (cond (eqb number 3) (Known (row 4 67 4)) (cond (eqb number 4) (Known byteDigits) Unknown)))
 
 -- ---- appendix B
 

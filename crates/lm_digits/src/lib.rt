@@ -8,6 +8,9 @@ pub mod digits;
 // The most chains of a one-time type: those of type 1 (RFC 8554, 4.1, table 1).
 pub const CHAINS_MOST: usize = 265;
 
+// The chains of type 4, a digit a byte.
+pub const BYTE_CHAINS: usize = 34;
+
 // The parameters of a one-time type: digit bits w, chains p, checksum shift ls (RFC 8554, table 1).
 pub struct Parameters {
     pub bits: u32,
@@ -42,7 +45,7 @@ pub fn one_time(number: u32) -> OneTime
         }),
         4 => OneTime::Known(Parameters {
             bits: 8,
-            chains: 34,
+            chains: BYTE_CHAINS,
             shift: 0,
         }),
         _ => OneTime::Unknown,

@@ -7,7 +7,7 @@ ghost use lib.Seq.{sets};
 ghost use Rattle.words.specs.BigEndian.{be};
 ghost use Rattle.sha256.specs.Service.{limit};
 ghost use Rattle.sha256.specs.Sha256.{bytesOf};
-ghost use Rattle.lm_hash.specs.Identifier.{identifier, headSize};
+ghost use Rattle.lm_hash.specs.Identifier.{identifier, prefixSize};
 ghost use Rattle.lm_hash.specs.Tagged as rfc;
 
 pub mod message;
@@ -62,7 +62,7 @@ pub fn leaf_at(s: &[u8], at: usize, q: u32) -> Leaf
 // The 22 bytes I, q, d that every hash begins with, and ten zeros.
 fn head(leaf: Leaf, q: u32, d: u32) -> [u8; 32]
     requires { ⌜ d < 65536 ⌝ }
-    ensures { λ r. ⌜ take headSize r ≡ identifier leaf ++ be 4 q ++ be 2 d ⌝ }
+    ensures { λ r. ⌜ take prefixSize r ≡ identifier leaf ++ be 4 q ++ be 2 d ⌝ }
 {
     State {
         a: leaf.i0,

@@ -7,7 +7,7 @@ use lib.Dec.{eqb, leb}
 use lib.ListN.{length, take, drop}
 use Rattle.words.specs.BigEndian.{numberAt, same}
 use Rattle.refusal.specs.Checks.{all, check, refusal}
-use Rattle.lm_digits.specs.Parameters.{row}
+use Rattle.lm_digits.specs.Parameters.{byteDigits}
 use Rattle.lm_format.specs.declared.Height.{Height}
 use Rattle.lm_format.specs.declared.Height.the-variants.{Levels, Unknown}
 use Rattle.lm_format.specs.Format.{height, keySize, signatureLength}
@@ -48,7 +48,7 @@ levels Unknown = 0
 
 -- S: the bytes of each signature, from one-time type 4 and the one tree type
 unfoldable pub signatureSize : List ℕ → ℕ
-signatureSize roster = signatureLength (row 8 34 0) (levels (height (treeType (keyOf roster 1))))
+signatureSize roster = signatureLength byteDigits (levels (height (treeType (keyOf roster 1))))
 
 -- ---- the checks
 

@@ -14,11 +14,9 @@ pub const NAME_SIZE: usize = 16;
 
 pub const HEAD_SIZE: usize = 18;
 
-// The chains of one-time type 4 (RFC 8554, 4.1, table 1).
-const CHAINS: usize = 34;
-
-// The bytes of a signature before its path: q and the one-time type, C and y, and the tree type.
-const PATH_AT: usize = lm_format::ONE_TIME_AT + 32 * (CHAINS + 1) + lm_format::TYPE_SIZE;
+// The bytes of a signature of one-time type 4 before its path: q and the one-time type, C and y, and the tree
+// type.
+const PATH_AT: usize = lm_format::ONE_TIME_AT + 32 * (lm_digits::BYTE_CHAINS + 1) + lm_format::TYPE_SIZE;
 
 // The bits of a mask.
 pub const MASK_BITS: usize = 16;

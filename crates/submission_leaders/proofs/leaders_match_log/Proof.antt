@@ -2,8 +2,8 @@
 -- Assumes nothing.
 use mathlib.Core.Path.{_≡_, sym, ap, _∙_}
 use mathlib.Core.List.{List, []}
-use Prim.Native.Nat.{ℕ, _-_, _*_, _≤_, _<_}
-use native.Mathlib.Nat.{le-trans, mul-le-mul-left}
+use Prim.Native.Nat.{ℕ, _-_, _≤_, _<_}
+use native.Mathlib.Nat.{le-trans}
 use native.Mathlib.Omega.{arith}
 use lib.ListN.{length, drop}
 use Rattle.sha256.specs.Sha256.{bytesOf}
@@ -11,7 +11,8 @@ use Rattle.refusal.specs.Checks.{every}
 use Rattle.log_chain.specs.Log.{withTerms, pointer}
 use Rattle.log_chain.specs.Runs.{runs}
 use Rattle.submission.specs.View.{leadsOf}
-use Rattle.log_chain.specs.Records.{recordSize, recordsOf}
+use Rattle.log_chain.specs.Records.{recordsOf}
+use Rattle.log_chain.proofs.Records.{fewer-inside}
 use Rattle.submission.specs.Reading.{certificates, certificatesEnd}
 use Rattle.log_terms.specs.Later.{runsLeft}
 use Rattle.submission.specs.Validate.{leading}
@@ -54,9 +55,8 @@ leading-requires c κs =
     let start = c .before .before .before .before .before in
     let a = start .args in
     let s = a .s .now in
-    let room : (i : ℕ) → i ≤ a .records → recordSize (a .width) * i ≤ length s = λ i h. le-trans (mul-le-mul-left (recordSize (a .width)) h) (start .pre .2) in
     let inside = first-inside (a .width) (a .size) s (l .left) (l .place) (omega (arith, c .before .loop-test .taken)) (l .inv .3) in
-    (start .pre .0, le-trans (certificate-head (a .width) (a .size) s (l .place)) inside, room (l .i) (l .inv .1), room _ (c .next-run .ensures .0 .1), l .inv .4)
+    (start .pre .0, le-trans (certificate-head (a .width) (a .size) s (l .place)) inside, fewer-inside (a .width) _ _ (l .inv .1) (start .pre .2), fewer-inside (a .width) _ _ (c .next-run .ensures .0 .1) (start .pre .2), l .inv .4)
 
 returns : tie.Need-returns Inv-loop μ-loop
 returns c name stamps e =

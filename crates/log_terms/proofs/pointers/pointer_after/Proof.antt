@@ -2,13 +2,13 @@
 -- Assumes nothing.
 use mathlib.Core.Path.{_≡_}
 use mathlib.Core.List.{[]}
-use Prim.Native.Nat.{_-_, _≤_}
-use native.Mathlib.Nat.{le-trans, mul-le-mul-left}
+use Prim.Native.Nat.{suc, _-_, _≤_}
 use native.Mathlib.Numerals.{add-one}
 use native.Mathlib.Omega.{arith}
 use Rattle.sha256.specs.Sha256.{bytesOf}
 use Rattle.log_chain.specs.Log.{withTerms, pointer}
-use Rattle.log_chain.specs.Records.{recordSize, recordsOf}
+use Rattle.log_chain.specs.Records.{recordsOf}
+use Rattle.log_chain.proofs.Records.{fewer-inside}
 use Rattle.log_terms.proofs.pointers.pointer_after.Statement.{statement}
 use Rattle.log_terms.proofs.pointers.pointer_after.Tie as tie
 
@@ -26,7 +26,7 @@ step-requires c κs =
     let start = c .before .before .before in
     let a = start .args in
     let l = c .before .loop in
-    (start .pre .0, omega arith, rw add-one (le-trans (mul-le-mul-left (recordSize (a .width)) (c .loop-test .taken)) (start .pre .3)), l .inv .1)
+    (start .pre .0, omega arith, rw add-one (fewer-inside (a .width) (suc (l .k)) (a .end) (c .loop-test .taken) (start .pre .3)), l .inv .1)
 
 add-k : tie.Need-add-k Inv-loop μ-loop
 add-k c = omega arith
