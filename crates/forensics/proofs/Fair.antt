@@ -24,7 +24,7 @@ use Rattle.forensics.specs.Findings.{says, charges}
 -- ---- from claims to charges
 
 -- what a replica says stands in a slot of its own
-says-slot : (k : ℕ) (xs : List Slot) (c : Claim) → List·Memᴰ c (says k xs) → (x : Slot) × List·Memᴰ x xs × (x .replica ≡ k) × (c ≡ x .claim)
+pub says-slot : (k : ℕ) (xs : List Slot) (c : Claim) → List·Memᴰ c (says k xs) → (x : Slot) × List·Memᴰ x xs × (x .replica ≡ k) × (c ≡ x .claim)
 unfolding says
 says-slot k [] c m = absurd (List·Memᴰ·not-nil m)
 says-slot k (x ∷ xs) c m =

@@ -9,7 +9,7 @@ returns : tie.Need-returns
 returns c =
     let rule = c .before .before .before .before .before .before .before .put-u8 in
     let a = c .before .before .before .before .before .before .before .before .before .before .before .args in
-    put-row (a .out .now) (rule .last .0) _ (a .at) (a .row .rule) _ _ (rule .ensures) (c .before .before .put-u32 .ensures)
+    put-row (a .out .now) (rule .last .0) _ (a .at) (a .row .rule) _ _ (rule .ensures) (c .before .before .put-number .ensures)
     (c .before .before .before .term-of .ensures)
 
 pub put-row-spec : {M : Type 1} → statement M

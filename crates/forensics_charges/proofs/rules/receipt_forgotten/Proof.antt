@@ -17,8 +17,19 @@ returns-2 c =
 
 returns-3 : tie.Need-returns-3
 returns-3 c =
-    let signs = sym (c .before .before .before .before .before .both-signed .ensures) ∙ not-false _ (c .before .before .before .before .if1 .left) in
-    c .end-staler .ensures ∙ by-staler _ _ _ signs (c .before .if2 .left)
+    let higher = c .before .before .before in
+    let first = higher .before .before .before in
+    let signs = sym (first .before .both-signed .ensures) ∙ not-false _ (first .if1 .left) in
+    c .end-staler .ensures ∙ by-staler _ _ _ signs (higher .if2 .left)
 
 pub receipt-forgotten-spec : {M : Type 1} → statement M
-receipt-forgotten-spec = tie.close (tie.spec (λ c κs. search needs) returns returns-2 (λ c κs. search needs) returns-3)
+receipt-forgotten-spec =
+    tie.close
+    (tie.spec
+    (λ c κs. search needs)
+    returns
+    returns-2
+    (λ c. search needs)
+    (λ c. search needs)
+    (λ c κs. search needs)
+    returns-3)
