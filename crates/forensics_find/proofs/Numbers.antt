@@ -12,20 +12,20 @@ use Rattle.submission.proofs.Places.{last-index-at}
 use Rattle.forensics_charges.specs.declared.Tenure.{Tenure}
 use Rattle.forensics_find.specs.Tenures.{endAt, tenureAt}
 
-module _ (s : List ℕ) (later next : ℕ) where
-  pub ends-log : later ≡ 0 → recordCount s ≡ endAt s later next
+module _ (w : ℕ) (s : List ℕ) (later next : ℕ) where
+  pub ends-log : later ≡ 0 → recordCount s ≡ endAt w s later next
   unfolding endAt
   ends-log h = rw h
 
-  pub ends-next : 0 < later → numberAt 4 s (next + 10) ≡ endAt s later next
+  pub ends-next : 0 < later → numberAt 4 s (next + 2 + w + w) ≡ endAt w s later next
   unfolding endAt
   ends-next h =
       let count : later ≡ suc (later - 1) = omega arith in
-      last-index-at s next ∙ ap (λ (n : ℕ). endAt s n next) (sym count)
+      last-index-at w s next ∙ ap (λ (n : ℕ). endAt w s n next) (sym count)
 
-pub tenure-numbers : (s : List ℕ) (later at next : ℕ) {c : Numbers} {end : ℕ} → c ≡ numbersAt s at → end ≡ endAt s later next
+pub tenure-numbers : (w : ℕ) (s : List ℕ) (later at next : ℕ) {c : Numbers} {end : ℕ} → c ≡ numbersAt w s at → end ≡ endAt w s later next
     → _≡_ {A = Tenure}
     (record { candidate = c .candidate; term = c .term; «last_term» = c .«last_term»; «last_index» = c .«last_index»; signers = c .signers; end = end })
-    (tenureAt s later at next)
+    (tenureAt w s later at next)
 unfolding tenureAt numbersAt
-tenure-numbers s later at next ec ee = rw (ec, ee)
+tenure-numbers w s later at next ec ee = rw (ec, ee)

@@ -6,6 +6,7 @@ use mathlib.Core.Bool.{true}
 use mathlib.Core.List.{List, map}
 use Prim.Native.Nat.{ℕ, _<_}
 use native.Mathlib.Omega.{arith}
+use lib.Dec.{lit≤}
 use lib.ListN.{length}
 use Rattle.roster.specs.Roster.{replicas, signatureSize, rosterNumber}
 use Rattle.roster.proofs.Accepted.{signature-bounds}
@@ -33,21 +34,21 @@ use Rattle.forensics_find.proofs.Rules.{rows-ruled}
 
 -- ---- the fork and the rows that were read
 
-module _ (S : ℕ) (a b : List ℕ) where
-  pub read-says : {m n d : ℕ} {first second : Receipt} (fork : ℕ) (rows : List Row) → d ≡ differAt 1 (recordsOf 4 m a) (recordsOf 4 n b)
-      → m ≡ recordCount a → n ≡ recordCount b → first ≡ receipts (view 4 S a) → second ≡ receipts (view 4 S b)
+module _ (w S : ℕ) (a b : List ℕ) where
+  pub read-says : {m n d : ℕ} {first second : Receipt} (fork : ℕ) (rows : List Row) → d ≡ differAt 1 (recordsOf w m a) (recordsOf w n b)
+      → m ≡ recordCount a → n ≡ recordCount b → first ≡ receipts (view w S a) → second ≡ receipts (view w S b)
       → fork ≡ forkOf d first second
-      → map chargeOf rows ≡ rowsBy (λ k. lowest (ruledBy k d (tenuresOf S a) (tenuresOf S b) first second)) 9 1
-      → findingsOf (record { fork = fork; rows = rows }) ≡ read S a b
+      → map chargeOf rows ≡ rowsBy (λ k. lowest (ruledBy k d (tenuresOf w S a) (tenuresOf w S b) first second)) 9 1
+      → findingsOf (record { fork = fork; rows = rows }) ≡ read w S a b
   unfolding findingsOf read view
   read-says fork rows ed em en ef es fork-is rows-are = rw (fork-is, rows-are, ed, em, en, ef, es)
 
 -- ---- an accepted submission
 
 pub record Facts (roster s : List ℕ) : Type 0 where
-  pub inside : Bounds (signatureSize roster) s
-  pub laid : laidOut 4 (signatureSize roster) s ≡ true
-  pub commit : within (view 4 (signatureSize roster) s .commit) (length (view 4 (signatureSize roster) s .log)) ≡ true
+  pub inside : Bounds (formOf roster .termBytes) (signatureSize roster) s
+  pub laid : laidOut (formOf roster .termBytes) (signatureSize roster) s ≡ true
+  pub commit : within (viewOf roster s .commit) (length (viewOf roster s .log)) ≡ true
   pub sound : Sound (formOf roster) (replicas roster) (viewOf roster s)
 
 pub facts : (roster s : List ℕ) → rosterNumber roster ≡ 0 → validate roster s ≡ 0 → Facts roster s
@@ -55,7 +56,7 @@ unfolding viewOf formOf version1
 facts roster s fine ok =
     let v = validated roster s ok in
     record {
-      inside = bounds (signatureSize roster) s (v .size) (v .counts) (signature-bounds roster fine .1);
+      inside = bounds (formOf roster .termBytes) (signatureSize roster) s (v .size) (v .counts) (lit≤ tt) (signature-bounds roster fine .1);
       laid = v .layout;
       commit = v .sound .commit;
       sound = v .sound;
@@ -65,15 +66,16 @@ facts roster s fine ok =
 
 module _ (roster a b : List ℕ) (first : Facts roster a) (second : Facts roster b) where
   row-read : (k : ℕ) → 0 < k → k < 10
-      → lowest (charges k (slots (signatureSize roster) (viewOf roster a)) (slots (signatureSize roster) (viewOf roster b)))
-      ≡ lowest (ruledBy k (differAt 1 (viewOf roster a .log) (viewOf roster b .log)) (tenuresOf (signatureSize roster) a) (tenuresOf (signatureSize roster) b)
+      → let w = formOf roster .termBytes in let S = signatureSize roster in
+      lowest (charges k (slots S (viewOf roster a)) (slots S (viewOf roster b)))
+      ≡ lowest (ruledBy k (differAt 1 (viewOf roster a .log) (viewOf roster b .log)) (tenuresOf w S a) (tenuresOf w S b)
       (receipts (viewOf roster a)) (receipts (viewOf roster b)))
   unfolding ruled
   row-read k low high =
       rw (← tenures-read roster a (first .sound), ← tenures-read roster b (second .sound))
       (rows-ruled (formOf roster) (replicas roster) (signatureSize roster) k low (omega arith) (viewOf roster a) (viewOf roster b) (first .sound) (second .sound))
 
-  pub read-is : read (signatureSize roster) a b ≡ findings (signatureSize roster) (viewOf roster a) (viewOf roster b)
+  pub read-is : read (formOf roster .termBytes) (signatureSize roster) a b ≡ findings (signatureSize roster) (viewOf roster a) (viewOf roster b)
   unfolding read findings viewOf formOf version1
   read-is =
       λ i. record {

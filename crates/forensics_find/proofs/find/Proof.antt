@@ -2,6 +2,8 @@
 -- Assumes nothing.
 use mathlib.Core.Path.{_∙_}
 use native.Mathlib.Omega.{arith}
+use Rattle.log_chain.specs.Log.{version1}
+use Rattle.submission.specs.Validate.{formOf, viewOf}
 use Rattle.roster.proofs.Accepted.{sizes, key-inside}
 use Rattle.forensics_find.proofs.Shown.{facts, read-is}
 use Rattle.forensics_find.proofs.find.Statement.{statement}
@@ -15,6 +17,7 @@ signature-size-requires c κs =
     omega (arith, key-inside roster (start .pre .0) 1 (omega arith))
 
 found-requires : tie.Need-found-requires
+unfolding viewOf formOf version1
 found-requires c κs =
     let start = c .before .before .before .before in
     let a = start .args in
@@ -23,6 +26,7 @@ found-requires c κs =
     rw (c .signature-size .ensures .0) (first .inside, first .laid, first .commit, second .inside, second .laid, second .commit)
 
 returns : tie.Need-returns
+unfolding formOf version1
 returns c =
     let start = c .before .before .before .before .before in
     let a = start .args in

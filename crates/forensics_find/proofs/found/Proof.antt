@@ -1,7 +1,6 @@
 -- The fork and the rows from the first difference of the logs and the receipts.
 -- Assumes nothing.
 use native.Mathlib.Omega.{arith}
-use Rattle.log_chain.specs.Records.{recordSize}
 use Rattle.submission_parts.proofs.Inside.{records-inside}
 use Rattle.forensics_find.proofs.Shown.{read-says}
 use borrow.Author.Needs.{needs}
@@ -15,12 +14,11 @@ record-count-requires-2 : tie.Need-record-count-requires-2
 record-count-requires-2 c κs = c .before .before .before .pre .3 .long
 
 difference-requires : tie.Need-difference-requires
-unfolding recordSize
 difference-requires c κs =
     let a = c .before .before .before .before .args in
     let p = c .before .before .before .before .pre in
     rw (c .before .record-count .ensures .0, c .record-count2 .ensures .0)
-    (omega (arith, records-inside (a .size) (a .a .now) (p .1)), omega (arith, records-inside (a .size) (a .b .now) (p .4)))
+    (p .0 .width, omega (arith, records-inside (a .width) (a .size) (a .a .now) (p .1)), omega (arith, records-inside (a .width) (a .size) (a .b .now) (p .4)))
 
 receipts-of-requires : tie.Need-receipts-of-requires
 receipts-of-requires c κs = let p = c .before .before .before .before .before .pre in (p .0, p .1, p .2)
@@ -34,7 +32,7 @@ rows-requires c κs = let p = c .before .before .before .before .before .before 
 returns : tie.Need-returns
 returns c =
     let a = c .before .before .before .before .before .before .before .before .before .args in
-    read-says (a .size) (a .a .now) (a .b .now) _ _ (c .before .before .before .before .difference .ensures)
+    read-says (a .width) (a .size) (a .a .now) (a .b .now) _ _ (c .before .before .before .before .difference .ensures)
     (c .before .before .before .before .before .before .record-count .ensures .0)
     (c .before .before .before .before .before .record-count2 .ensures .0)
     (c .before .before .before .receipts-of .ensures) (c .before .before .receipts-of2 .ensures) (c .before .fork .ensures) (c .rows .ensures)

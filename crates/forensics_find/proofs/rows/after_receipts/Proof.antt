@@ -13,12 +13,12 @@ use Rattle.forensics_find.proofs.rows.after_receipts.Statement.{stateme
 use Rattle.forensics_find.proofs.rows.after_receipts.Tie as tie
 
 abbrev Inv-loop : tie.InvT-loop
-Inv-loop k rule given s size best₀ left₀ at₀ best left at =
-    RowsLeft size s (λ y. charge (forgotten k given y) rule (y .term)) (lowest (afterReceipts k rule given (tenuresOf size s))) left at
+Inv-loop k rule given s w size best₀ left₀ at₀ best left at =
+    RowsLeft w size s (λ y. charge (forgotten k given y) rule (y .term)) (lowest (afterReceipts k rule given (tenuresOf w size s))) left at
     (chargeOf best)
 
 abbrev μ-loop : tie.MeasureT-loop
-μ-loop k rule given s size best₀ left₀ at₀ best left at = left
+μ-loop k rule given s w size best₀ left₀ at₀ best left at = left
 
 leader-count-requires : tie.Need-leader-count-requires Inv-loop μ-loop
 leader-count-requires c κs = c .before .before .pre .2 .long
@@ -26,13 +26,13 @@ leader-count-requires c κs = c .before .before .pre .2 .long
 leaders-from-requires : tie.Need-leaders-from-requires Inv-loop μ-loop
 leaders-from-requires c κs =
     let p = c .before .before .before .pre .2 in
-    (p .long, p .records)
+    (p .long, p .records, p .width)
 
 loop-holds : tie.Need-loop-holds Inv-loop μ-loop
 unfolding afterReceipts
 loop-holds c =
     let start = c .before .before .before .before in
-    rows-all (start .args .size) (start .args .s .now) _ (start .pre .3) (c .before .before .unnamed-row .ensures)
+    rows-all (start .args .width) (start .args .size) (start .args .s .now) _ (start .pre .3) (c .before .before .unnamed-row .ensures)
     (c .before .leader-count .ensures .0) (c .leaders-from .ensures)
 
 certificate-end-requires : tie.Need-certificate-end-requires Inv-loop μ-loop
@@ -40,7 +40,7 @@ certificate-end-requires c κs =
     let start = c .before .before .before .before .before .before in
     let a = start .args in
     let l = c .before .loop in
-    end-inside (a .size) (a .s .now) _ _ (l .left) (l .at) (l .inv) (omega arith)
+    (start .pre .2 .width, end-inside (a .width) (a .size) (a .s .now) _ _ (l .left) (l .at) (l .inv) (omega arith))
 
 tenure-at-requires : tie.Need-tenure-at-requires Inv-loop μ-loop
 tenure-at-requires c κs =
@@ -50,8 +50,9 @@ tenure-at-requires c κs =
     let p = start .pre .2 in (
       p .long,
       p .short,
-      first-inside (a .size) (a .s .now) _ _ (l .left) (l .at) (l .inv) (omega arith),
-      next-inside (a .size) (a .s .now) _ _ (l .left) (l .at) (l .inv) (omega arith) (c .certificate-end .ensures),
+      p .width,
+      first-inside (a .width) (a .size) (a .s .now) _ _ (l .left) (l .at) (l .inv) (omega arith),
+      next-inside (a .width) (a .size) (a .s .now) _ _ (l .left) (l .at) (l .inv) (omega arith) (c .certificate-end .ensures),
     )
 
 after-receipt-requires : tie.Need-after-receipt-requires Inv-loop μ-loop
@@ -63,7 +64,7 @@ loop-again : tie.Need-loop-again Inv-loop μ-loop
 loop-again c =
     let a = c .before .before .before .before .before .before .before .before .before .before .args in
     let l = c .before .before .before .before .before .loop in
-    rows-next (a .size) (a .s .now) _ _ (l .left) (l .at) (l .inv) (omega (arith, c .before .before .before .before .loop-test .taken))
+    rows-next (a .width) (a .size) (a .s .now) _ _ (l .left) (l .at) (l .inv) (omega (arith, c .before .before .before .before .loop-test .taken))
     (c .before .before .before .certificate-end .ensures) (c .before .before .tenure-at .ensures) (c .before .after-receipt .ensures)
     (c .lower-row .ensures)
 
@@ -71,7 +72,7 @@ returns : tie.Need-returns Inv-loop μ-loop
 returns c =
     let a = c .before .before .before .before .before .before .args in
     let l = c .before .loop in
-    rows-done (a .size) (a .s .now) _ _ (l .left) (l .at) (l .inv) (omega arith)
+    rows-done (a .width) (a .size) (a .s .now) _ _ (l .left) (l .at) (l .inv) (omega arith)
 
 pub after-receipts-spec : {M : Type 1} → statement M
 after-receipts-spec =

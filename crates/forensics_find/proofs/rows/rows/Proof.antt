@@ -11,11 +11,11 @@ use Rattle.forensics_find.proofs.rows.rows.Statement.{statement}
 use Rattle.forensics_find.proofs.rows.rows.Tie as tie
 
 abbrev Inv-loop : tie.InvT-loop
-Inv-loop difference a b first second size out₀ i₀ out i =
-    Filled (λ k. lowest (ruledBy k difference (tenuresOf size a) (tenuresOf size b) first second)) out i
+Inv-loop difference a b first second w size out₀ i₀ out i =
+    Filled (λ k. lowest (ruledBy k difference (tenuresOf w size a) (tenuresOf w size b) first second)) out i
 
 abbrev μ-loop : tie.MeasureT-loop
-μ-loop difference a b first second size out₀ i₀ out i = 9 - i
+μ-loop difference a b first second w size out₀ i₀ out i = 9 - i
 
 loop-holds : tie.Need-loop-holds Inv-loop μ-loop
 unfolding rowsBy
