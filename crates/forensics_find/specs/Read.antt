@@ -17,5 +17,6 @@ read w S a b =
     let y = view w S b in
     let difference = differAt 1 (x .log) (y .log) in
     let row : ℕ → Option Charge =
-    λ k. forensics.lowest (ruledBy k difference (tenuresOf w S a) (tenuresOf w S b) (receipts x) (receipts y)) in
+    λ k. forensics.lowest
+    (ruledBy k difference (tenuresOf w S a) (tenuresOf w S b) (receipts x) (receipts y)) in
     record { fork = forkOf difference (receipts x) (receipts y); rows = rowsBy row forensics.rowCount 1 }

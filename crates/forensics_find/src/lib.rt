@@ -1,5 +1,5 @@
-// The fork index and the rows of two accepted submissions (document 01, "The report"). The term's width is fixed
-// here, by the version, and free below.
+// The fork index and the rows of two accepted submissions (document 01, "The report"). The term's width is
+// fixed here, by the version, and free below.
 ghost use mathlib.Core.Path.{_≡_};
 ghost use mathlib.Core.Bool.{true};
 ghost use lib.ListN.{length};

@@ -35,8 +35,8 @@ fn against(k: usize, difference: usize, x: Tenure, s: &[u8], width: usize, size:
 
 // The row of replica k from the terms of two submissions: rules 1 and 2.
 fn among_terms(k: usize, difference: usize, a: &[u8], b: &[u8], width: usize, size: usize) -> Row
-    requires { ⌜ (0 < k) × Bounds width size (now a) × (laidOut width size (now a) ≡ true) × Bounds width size (now b)
-        × (laidOut width size (now b) ≡ true) ⌝ }
+    requires { ⌜ (0 < k) × Bounds width size (now a) × (laidOut width size (now a) ≡ true)
+        × Bounds width size (now b) × (laidOut width size (now b) ≡ true) ⌝ }
     ensures { λ r. ⌜ inner.chargeOf r
         ≡ lowest (inner.amongTerms k difference (tenuresOf width size (now (a .entry))) (tenuresOf width size
         (now (b .entry)))) ⌝ }
@@ -89,8 +89,8 @@ fn row(
     width: usize,
     size: usize,
 ) -> Row
-    requires { ⌜ (0 < k) × Bounds width size (now a) × (laidOut width size (now a) ≡ true) × Bounds width size (now b)
-        × (laidOut width size (now b) ≡ true) ⌝ }
+    requires { ⌜ (0 < k) × Bounds width size (now a) × (laidOut width size (now a) ≡ true)
+        × Bounds width size (now b) × (laidOut width size (now b) ≡ true) ⌝ }
     ensures { λ r. ⌜ inner.chargeOf r
         ≡ lowest (inner.ruledBy k difference (tenuresOf width size (now (a .entry))) (tenuresOf width size
         (now (b .entry))) first second) ⌝ }

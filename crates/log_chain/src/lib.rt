@@ -1,4 +1,5 @@
-// Records, chain strings, pointers and statements (document 01, "Chain and statements"), over the term's width.
+// Records, chain strings, pointers and statements (document 01, "Chain and statements"), over the term's
+// width.
 ghost use mathlib.Core.Path.{_≡_};
 ghost use mathlib.Core.List.{_∷_, _++_};
 ghost use Prim.Native.Nat.{_+_, _≤_};
@@ -54,8 +55,8 @@ pub fn next_pointer(index: u32, fields: &[u8], before: State) -> State
     lm_hash::message::joined(&h[..end], &p)
 }
 
-// Writes a stamp or a receipt to the start of a buffer, and gives the number of its bytes: kind, cluster name,
-// term, index, pointer.
+// Writes a stamp or a receipt to the start of a buffer, and gives the number of its bytes: kind, cluster
+// name, term, index, pointer.
 pub fn put_place_statement(
     out: &mut [u8],
     kind: u8,

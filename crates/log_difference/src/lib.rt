@@ -10,7 +10,8 @@ ghost use Rattle.log_chain.specs.Difference.{differAt};
 // Whether so many bytes of two logs at a place are the same.
 fn same_part(a: &[u8], b: &[u8], at: usize, size: usize) -> bool
     requires { ⌜ (at + size ≤ length (now a)) × (at + size ≤ length (now b)) ⌝ }
-    ensures { λ r. ⌜ r ≡ same (take size (drop at (now (a .entry)))) (take size (drop at (now (b .entry)))) ⌝ }
+    ensures { λ r. ⌜ r
+        ≡ same (take size (drop at (now (a .entry)))) (take size (drop at (now (b .entry)))) ⌝ }
 {
     let end = at + size;
     check::same(&a[at..end], &b[at..end])

@@ -1,5 +1,5 @@
-// The terms of a log one after the other, with the running pointer (document 01, "Chain and statements"), over
-// the term's width. A pointer has no cluster name in it: that of the form is empty here.
+// The terms of a log one after the other, with the running pointer (document 01, "Chain and statements"),
+// over the term's width. A pointer has no cluster name in it: that of the form is empty here.
 ghost use mathlib.Core.Path.{_≡_};
 ghost use mathlib.Core.List.{[], _∷_};
 ghost use Prim.Native.Nat.{ℕ, _+_, _*_, _^_, _≤_, _<_};

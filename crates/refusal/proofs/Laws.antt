@@ -1,12 +1,13 @@
 -- What tests taken together say of each, and what it means that no check is refused.
 -- Assumes nothing.
-use mathlib.Core.Path.{_≡_, refl}
+use mathlib.Core.Path.{_≡_, refl, _∙_}
 use mathlib.Core.Bool.{Bool, true, false, not, cond, false≢true}
 use mathlib.Core.List.{List, [], _∷_, _++_, List·Memᴰ, List·Memᴰ·not-nil, List·Memᴰ·cases-cons}
 use mathlib.Core.Logic.{_⊎_, inl, inr, ⊎-elim}
 use Prim.Native.Nat.{ℕ, _<_}
 use native.Mathlib.Omega.{arith}
-use Rattle.refusal.specs.Checks.{all, every, Check, check, refusal}
+use borrow.Author.Tests.{eq-eqb, ne-eqb}
+use Rattle.refusal.specs.Checks.{all, every, Check, check, refusal, first}
 
 -- ---- one test
 
@@ -78,3 +79,13 @@ passed k met cs e = rw e
 pub refused : (k : ℕ) (met : Bool) (cs : List Check) → met ≡ false → refusal (check k met ∷ cs) ≡ k
 unfolding refusal check
 refused k met cs e = rw e
+
+-- ---- numbers in order
+
+pub first-refused : {r a : ℕ} (b : ℕ) → r ≡ a → (r ≡ 0 → ⊥) → r ≡ first a b
+unfolding first
+first-refused {r} {a} b e h = e ∙ rw (ne-eqb a 0 (λ z. h (e ∙ z)))
+
+pub first-accepted : {r a b : ℕ} → a ≡ 0 → r ≡ b → r ≡ first a b
+unfolding first
+first-accepted e h = rw (eq-eqb _ 0 e) h

@@ -16,7 +16,9 @@ pub const HEAD_SIZE: usize = 18;
 
 // The bytes of a signature of one-time type 4 before its path: q and the one-time type, C and y, and the tree
 // type.
-const PATH_AT: usize = lm_format::ONE_TIME_AT + 32 * (lm_digits::BYTE_CHAINS + 1) + lm_format::TYPE_SIZE;
+const PATH_AT: usize = lm_format::ONE_TIME_AT
+    + 32 * (lm_digits::BYTE_CHAINS + 1)
+    + lm_format::TYPE_SIZE;
 
 // The bits of a mask.
 pub const MASK_BITS: usize = 16;

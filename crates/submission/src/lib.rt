@@ -15,8 +15,11 @@ pub const TERM_AT: usize = 2;
 pub const SIGNERS_SIZE: usize = 2;
 
 // The most bytes of a statement: kind, cluster name, and a vote's fields with terms of eight bytes.
-pub const STATEMENT_MOST: usize =
-    log_chain::NAME_AT + roster::NAME_SIZE + TERM_AT + 2 * words::WIDTH_MOST + log_chain::INDEX_SIZE
+pub const STATEMENT_MOST: usize = log_chain::NAME_AT
+    + roster::NAME_SIZE
+    + TERM_AT
+    + 2 * words::WIDTH_MOST
+    + log_chain::INDEX_SIZE
     + log_chain::POINTER_SIZE;
 
 // Where the signers of a commit certificate stand, and the bytes before its signatures.

@@ -19,20 +19,20 @@ use Rattle.submission_parts.specs.Reader.{commitNumbersAt}
 use Rattle.submission_parts.specs.Commits.{commitPart}
 use Rattle.submission_parts.proofs.Commits.{absent-says, found-says}
 
-module _ (S : ℕ) (s : List ℕ) where
-  pub no-index : commitPart S s ≡ Absent → true ≡ within (view 4 S s .commit) (length (view 4 S s .log))
+module _ (w S : ℕ) (s : List ℕ) where
+  pub no-index : commitPart w S s ≡ Absent → true ≡ within (view w S s .commit) (length (view w S s .log))
   unfolding view within
-  no-index e = rw (absent-says S s e)
+  no-index e = rw (absent-says w S s e)
 
-  module _ {c : Commit} {at : ℕ} (e : commitPart S s ≡ Found c at) where
-    pub zero-index : c .index ≡ 0 → false ≡ within (view 4 S s .commit) (length (view 4 S s .log))
+  module _ {c : Commit} {at : ℕ} (e : commitPart w S s ≡ Found c at) where
+    pub zero-index : c .index ≡ 0 → false ≡ within (view w S s .commit) (length (view w S s .log))
     unfolding view within commitNumbersAt
-    zero-index h = let says = found-says S s e in
+    zero-index h = let says = found-says w S s e in
         let index : commitAt s at .index ≡ 0 = rw (says .0) at h in
         rw (says .2) (first-fails _ _ (le-ltb 0 (commitAt s at .index) (omega arith)))
 
-    pub index-within : 0 < c .index → leb (c .index) (recordCount s) ≡ within (view 4 S s .commit) (length (view 4 S s .log))
+    pub index-within : 0 < c .index → leb (c .index) (recordCount s) ≡ within (view w S s .commit) (length (view w S s .log))
     unfolding view within commitNumbersAt
-    index-within h = let says = found-says S s e in
+    index-within h = let says = found-says w S s e in
         let index : 0 < commitAt s at .index = rw (says .0) at h in
         rw (says .2, says .0, length-records) (first-holds _ _ (lt-ltb 0 (commitAt s at .index) index) (all-one _))

@@ -1,16 +1,16 @@
 -- What the functions say is what the checks ask, of the trailer's counts and places; and the checks one after the other.
 -- Assumes nothing.
 use mathlib.Core.Path.{_≡_, sym, _∙_}
-use mathlib.Core.Bool.{Bool, true, cond}
+use mathlib.Core.Bool.{Bool, true}
 use mathlib.Core.List.{List}
 use Prim.Native.Nat.{ℕ, _*_, _≤_}
-use borrow.Author.Tests.{leb-true, eq-eqb, ne-eqb}
+use borrow.Author.Tests.{leb-true}
 use lib.Dec.{eqb}
 use lib.ListN.{length}
 use Rattle.refusal.specs.Checks.{every, check, refusal}
 use Rattle.refusal.proofs.Laws.{all-cons, passed}
 use Rattle.roster.specs.Roster.{cluster, replicas, signatureSize}
-use Rattle.log_chain.specs.Log.{version1}
+use Rattle.log_chain.specs.Log.{withTerms, version1}
 use Rattle.log_chain.specs.Ends.{rising}
 use Rattle.submission.specs.Trailer.{trailerSize, recordCount, leaderCount}
 use Rattle.log_chain.specs.Runs.{runs}
@@ -23,22 +23,22 @@ use Rattle.submission_checks.specs.Checks.{leaderChecks, logChecks, part
 
 -- ---- what the checks ask
 
-module _ (roster : List ℕ) (S : ℕ) (s : List ℕ) where
-  pub asked-leading : {n H L from : ℕ} {r : Bool} → n ≡ replicas roster → H ≡ recordCount s → L ≡ leaderCount s → from ≡ recordSize 4 * recordCount s
-      → ((name : List ℕ) (stamps : List (List ℕ)) → length stamps ≡ L → r ≡ every (leading (version1 name) n) (leadsOf (certificates 4 S s L from) (runs (recordsOf 4 H s)) stamps))
-      → r ≡ every (leading (formOf roster) (replicas roster)) (leads (view 4 S s))
-  unfolding leads view formOf leadersFrom
+module _ (roster : List ℕ) (w S : ℕ) (s : List ℕ) where
+  pub asked-leading : {n H L from : ℕ} {r : Bool} → n ≡ replicas roster → H ≡ recordCount s → L ≡ leaderCount s → from ≡ recordSize w * recordCount s
+      → ((name : List ℕ) (stamps : List (List ℕ)) → length stamps ≡ L → r ≡ every (leading (withTerms w name) n) (leadsOf (certificates w S s L from) (runs (recordsOf w H s)) stamps))
+      → r ≡ every (leading (withTerms w (cluster roster)) (replicas roster)) (leads (view w S s))
+  unfolding leads view leadersFrom
   asked-leading en eH eL ef h =
-      rw (en, eH, eL, ef) at (h (cluster roster) (stampsAt S s (leaderCount s) (stampsFrom 4 S s)) (length-stamps 4 S s (leaderCount s) (stampsFrom 4 S s) ∙ sym eL))
+      rw (en, eH, eL, ef) at (h (cluster roster) (stampsAt S s (leaderCount s) (stampsFrom w S s)) (length-stamps w S s (leaderCount s) (stampsFrom w S s) ∙ sym eL))
 
-module _ (S : ℕ) (s : List ℕ) where
-  pub asked-ordered : {H : ℕ} {r : Bool} → H ≡ recordCount s → r ≡ rising 1 (recordsOf 4 H s) → r ≡ ordered (view 4 S s)
+module _ (w S : ℕ) (s : List ℕ) where
+  pub asked-ordered : {H : ℕ} {r : Bool} → H ≡ recordCount s → r ≡ rising 1 (recordsOf w H s) → r ≡ ordered (view w S s)
   unfolding ordered view
   asked-ordered e h = rw e at h
 
-  pub asked-count : {H L count : ℕ} → H ≡ recordCount s → L ≡ leaderCount s → count ≡ length (runs (recordsOf 4 H s)) → oneEach (view 4 S s) ≡ eqb L count
+  pub asked-count : {H L count : ℕ} → H ≡ recordCount s → L ≡ leaderCount s → count ≡ length (runs (recordsOf w H s)) → oneEach (view w S s) ≡ eqb L count
   unfolding oneEach view
-  asked-count eH eL e = rw (e, eH, eL, length-certificates 4 S s (leaderCount s) (leadersFrom 4 S s))
+  asked-count eH eL e = rw (e, eH, eL, length-certificates w S s (leaderCount s) (leadersFrom w S s))
 
 -- ---- one by one
 
@@ -46,19 +46,13 @@ pub sized-long : (s : List ℕ) → sized s ≡ true → trailerSize ≤ length 
 unfolding sized
 sized-long s e = leb-true trailerSize (length s) (all-cons _ _ e .0)
 
-pub roster-refuses : {r R : ℕ} (v : ℕ) → r ≡ R → (r ≡ 0 → ⊥) → r ≡ cond (eqb R 0) v R
-roster-refuses {r} {R} v e h = e ∙ rw (ne-eqb R 0 (λ z. h (e ∙ z)))
-
-pub roster-accepts : {x R v : ℕ} → R ≡ 0 → x ≡ v → x ≡ cond (eqb R 0) v R
-roster-accepts e h = rw (eq-eqb _ 0 e) h
-
 pub trailer-passed : (roster s : List ℕ) {r : ℕ} → sized s ≡ true → versioned s ≡ true → named (cluster roster) s ≡ true → counted s ≡ true
-    → r ≡ refusal (partChecks roster (signatureSize roster) s) → r ≡ validate roster s
+    → r ≡ refusal (partChecks roster (formOf roster .termBytes) (signatureSize roster) s) → r ≡ validate roster s
 unfolding validate formOf viewOf slotsOf partChecks logChecks leaderChecks version1
 trailer-passed roster s e5 e6 e7 e8 h = h ∙ sym (passed 5 _ _ e5 ∙ passed 6 _ _ e6 ∙ passed 7 _ _ e7 ∙ passed 8 _ _ e8)
 
-pub leaders-passed : (roster : List ℕ) (S : ℕ) (s : List ℕ) → every (leading (formOf roster) (replicas roster)) (leads (view 4 S s)) ≡ true
-    → within (view 4 S s .commit) (length (view 4 S s .log)) ≡ true → every (genuine (formOf roster) roster) (slots S (view 4 S s)) ≡ true
-    → 0 ≡ refusal (leaderChecks roster S s)
+pub leaders-passed : (roster : List ℕ) (w S : ℕ) (s : List ℕ) → every (leading (withTerms w (cluster roster)) (replicas roster)) (leads (view w S s)) ≡ true
+    → within (view w S s .commit) (length (view w S s .log)) ≡ true → every (genuine (withTerms w (cluster roster)) roster) (slots S (view w S s)) ≡ true
+    → 0 ≡ refusal (leaderChecks roster w S s)
 unfolding leaderChecks refusal check
-leaders-passed roster S s e13 e14 e15 = rw (e13, e14, e15)
+leaders-passed roster w S s e13 e14 e15 = rw (e13, e14, e15)

@@ -52,19 +52,12 @@ fn elected(s: &[u8], width: usize, at: usize, n: usize) -> bool
     if n < candidate {
         return false;
     }
-    roster::signer(words::u16_at(s, at + submission::ballot_size(width)), candidate)
+    let signers = words::u16_at(s, at + submission::ballot_size(width));
+    roster::signer(signers, candidate)
 }
 
 // Whether the certificate at a place is that of the term after record i, which ends with record `end`.
-fn leading(
-    s: &[u8],
-    n: usize,
-    width: usize,
-    at: usize,
-    i: usize,
-    end: usize,
-    before: State,
-) -> bool
+fn leading(s: &[u8], n: usize, width: usize, at: usize, i: usize, end: usize, before: State) -> bool
     requires { ⌜ (width ≤ widthMost) × (at + ballotSize width + 2 ≤ length (now s))
         × (recordSize width * i ≤ length (now s)) × (recordSize width * end ≤ length (now s))
         × (bytesOf before ≡ pointer (withTerms width []) (recordsOf width i (now s))) ⌝ }

@@ -58,7 +58,8 @@ fn leaders_quorate(
 // Whether the commit certificate, where there is one, has a quorum of signers.
 fn commit_quorate(s: &[u8], n: usize, width: usize, size: usize) -> bool
     requires { ⌜ (0 < n) × (n ≤ 9) × Bounds width size (now s) × (laidOut width size (now s) ≡ true) ⌝ }
-    ensures { λ r. ⌜ r ≡ every (paper.quorate n) (paper.commitSigners (commitOf width size (now (s .entry)))) ⌝ }
+    ensures { λ r. ⌜ r
+        ≡ every (paper.quorate n) (paper.commitSigners (commitOf width size (now (s .entry)))) ⌝ }
 {
     let CommitPart::Found(commit, _) = submission_parts::commit_part(s, width, size) else {
         return true;

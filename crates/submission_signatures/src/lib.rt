@@ -52,7 +52,14 @@ fn places_good(roster: &[u8], s: &[u8], width: usize, size: usize) -> bool
         (now (s .entry)) .commit) (view width size (now (s .entry)) .log))) false ⌝ }
 {
     let CommitPart::Found(c, at) = submission_parts::commit_part(s, width, size) else {
-        return stamps_good_from(roster, s, width, size, 0, log_terms::pointers::pointer_zero());
+        return stamps_good_from(
+            roster,
+            s,
+            width,
+            size,
+            0,
+            log_terms::pointers::pointer_zero(),
+        );
     };
     let index = c.index as usize;
     let pointer = log_terms::pointers::pointer_after(

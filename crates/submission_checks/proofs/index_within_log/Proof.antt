@@ -11,18 +11,18 @@ use Rattle.submission_checks.proofs.index_within_log.Tie as tie
 returns : tie.Need-returns
 returns c =
     let a = c .before .before .before .before .args in
-    no-index (a .size) (a .s .now) (sym (c .before .before .commit-part .ensures) ∙ c .enum-told .given .1)
+    no-index (a .width) (a .size) (a .s .now) (sym (c .before .before .commit-part .ensures) ∙ c .enum-told .given .1)
 
 returns-2 : tie.Need-returns-2
 returns-2 c =
     let a = c .before .before .before .before .before .before .before .args in
-    zero-index (a .size) (a .s .now) (sym (c .before .before .before .before .before .commit-part .ensures) ∙ c .before .before .before .c .given .1) (omega arith)
+    zero-index (a .width) (a .size) (a .s .now) (sym (c .before .before .before .before .before .commit-part .ensures) ∙ c .before .before .before .c .given .1) (omega arith)
 
 returns-3 : tie.Need-returns-3
 returns-3 c =
     let a = c .before .before .before .before .before .before .before .before .args in
     let told = sym (c .before .before .before .before .before .before .commit-part .ensures) ∙ c .before .before .before .before .c .given .1 in
-    ap (leb _) (c .record-count .ensures .0) ∙ index-within (a .size) (a .s .now) told (omega arith)
+    ap (leb _) (c .record-count .ensures .0) ∙ index-within (a .width) (a .size) (a .s .now) told (omega arith)
 
 pub index-within-log-spec : {M : Type 1} → statement M
 index-within-log-spec =

@@ -16,30 +16,31 @@ leaders-match-log-requires c κs =
     let a = c .before .before .before .before .before .before .args in
     let p = c .before .before .before .before .before .before .pre in
     rw (c .before .before .record-count .ensures .0, c .before .leader-count .ensures .0, c .leaders-from .ensures) (
+      p .laid .bounds .width,
       p .laid .bounds .records,
-      records-in (a .roster .now) (a .size) (a .s .now) (p .laid),
-      sym (one-each (a .size) (a .s .now) (p .count)),
-      leaders-in (a .roster .now) (a .size) (a .s .now) (p .laid),
+      records-in (a .roster .now) (a .width) (a .size) (a .s .now) (p .laid),
+      sym (one-each (a .width) (a .size) (a .s .now) (p .count)),
+      leaders-in (a .roster .now) (a .width) (a .size) (a .s .now) (p .laid),
     )
 
 returns : tie.Need-returns
 unfolding leaderChecks
 returns c =
     let a = c .before .before .before .before .before .before .before .before .args in
-    let led = asked-leading (a .roster .now) (a .size) (a .s .now) (c .before .before .before .before .before .replicas .ensures .0) (c .before .before .before .before .record-count .ensures .0) (c .before .before .before .leader-count .ensures .0) (c .before .before .leaders-from .ensures) (c .before .leaders-match-log .ensures) in
+    let led = asked-leading (a .roster .now) (a .width) (a .size) (a .s .now) (c .before .before .before .before .before .replicas .ensures .0) (c .before .before .before .before .record-count .ensures .0) (c .before .before .before .leader-count .ensures .0) (c .before .before .leaders-from .ensures) (c .before .leaders-match-log .ensures) in
     sym (refused 13 _ _ (sym led ∙ not-true _ (c .if1 .taken)))
 
 returns-2 : tie.Need-returns-2
 unfolding leaderChecks
 returns-2 c =
     let a = c .before .before .before .before .before .before .before .before .before .before .args in
-    let led = asked-leading (a .roster .now) (a .size) (a .s .now) (c .before .before .before .before .before .before .before .replicas .ensures .0) (c .before .before .before .before .before .before .record-count .ensures .0) (c .before .before .before .before .before .leader-count .ensures .0) (c .before .before .before .before .leaders-from .ensures) (c .before .before .before .leaders-match-log .ensures) in
+    let led = asked-leading (a .roster .now) (a .width) (a .size) (a .s .now) (c .before .before .before .before .before .before .before .replicas .ensures .0) (c .before .before .before .before .before .before .record-count .ensures .0) (c .before .before .before .before .before .leader-count .ensures .0) (c .before .before .before .before .leaders-from .ensures) (c .before .before .before .leaders-match-log .ensures) in
     sym (passed 13 _ _ (sym led ∙ not-false _ (c .before .before .if1 .left)) ∙ refused 14 _ _ (sym (c .before .index-within-log .ensures) ∙ not-true _ (c .if2 .taken)))
 
 all-signatures-good-requires : tie.Need-all-signatures-good-requires
 all-signatures-good-requires c κs =
     let a = c .before .before .before .before .before .before .before .before .before .before .args in
-    let led = asked-leading (a .roster .now) (a .size) (a .s .now) (c .before .before .before .before .before .before .before .replicas .ensures .0) (c .before .before .before .before .before .before .record-count .ensures .0) (c .before .before .before .before .before .leader-count .ensures .0) (c .before .before .before .before .leaders-from .ensures) (c .before .before .before .leaders-match-log .ensures) in
+    let led = asked-leading (a .roster .now) (a .width) (a .size) (a .s .now) (c .before .before .before .before .before .before .before .replicas .ensures .0) (c .before .before .before .before .before .before .record-count .ensures .0) (c .before .before .before .before .before .leader-count .ensures .0) (c .before .before .before .before .leaders-from .ensures) (c .before .before .before .leaders-match-log .ensures) in
     record {
       counted = c .before .before .before .before .before .before .before .before .before .before .pre;
       leaders = sym led ∙ not-false _ (c .before .before .if1 .left);
@@ -50,15 +51,15 @@ returns-3 : tie.Need-returns-3
 unfolding leaderChecks
 returns-3 c =
     let a = c .before .before .before .before .before .before .before .before .before .before .before .before .args in
-    let led = asked-leading (a .roster .now) (a .size) (a .s .now) (c .before .before .before .before .before .before .before .before .before .replicas .ensures .0) (c .before .before .before .before .before .before .before .before .record-count .ensures .0) (c .before .before .before .before .before .before .before .leader-count .ensures .0) (c .before .before .before .before .before .before .leaders-from .ensures) (c .before .before .before .before .before .leaders-match-log .ensures) in
+    let led = asked-leading (a .roster .now) (a .width) (a .size) (a .s .now) (c .before .before .before .before .before .before .before .before .before .replicas .ensures .0) (c .before .before .before .before .before .before .before .before .record-count .ensures .0) (c .before .before .before .before .before .before .before .leader-count .ensures .0) (c .before .before .before .before .before .before .leaders-from .ensures) (c .before .before .before .before .before .leaders-match-log .ensures) in
     sym (passed 13 _ _ (sym led ∙ not-false _ (c .before .before .before .before .if1 .left)) ∙ passed 14 _ _ (sym (c .before .before .before .index-within-log .ensures) ∙ not-false _ (c .before .before .if2 .left))
     ∙ refused 15 _ _ (sym (c .before .all-signatures-good .ensures) ∙ not-true _ (c .if3 .taken)))
 
 returns-4 : tie.Need-returns-4
 returns-4 c =
     let a = c .before .before .before .before .before .before .before .before .before .before .before .before .args in
-    let led = asked-leading (a .roster .now) (a .size) (a .s .now) (c .before .before .before .before .before .before .before .before .before .replicas .ensures .0) (c .before .before .before .before .before .before .before .before .record-count .ensures .0) (c .before .before .before .before .before .before .before .leader-count .ensures .0) (c .before .before .before .before .before .before .leaders-from .ensures) (c .before .before .before .before .before .leaders-match-log .ensures) in
-    leaders-passed (a .roster .now) (a .size) (a .s .now) (sym led ∙ not-false _ (c .before .before .before .before .if1 .left)) (sym (c .before .before .before .index-within-log .ensures) ∙ not-false _ (c .before .before .if2 .left))
+    let led = asked-leading (a .roster .now) (a .width) (a .size) (a .s .now) (c .before .before .before .before .before .before .before .before .before .replicas .ensures .0) (c .before .before .before .before .before .before .before .before .record-count .ensures .0) (c .before .before .before .before .before .before .before .leader-count .ensures .0) (c .before .before .before .before .before .before .leaders-from .ensures) (c .before .before .before .before .before .leaders-match-log .ensures) in
+    leaders-passed (a .roster .now) (a .width) (a .size) (a .s .now) (sym led ∙ not-false _ (c .before .before .before .before .if1 .left)) (sym (c .before .before .before .index-within-log .ensures) ∙ not-false _ (c .before .before .if2 .left))
     (sym (c .before .all-signatures-good .ensures) ∙ not-false _ (c .if3 .left))
 
 pub leader-number-spec : {M : Type 1} → statement M
@@ -68,7 +69,7 @@ leader-number-spec =
     (λ c κs. let z = sizes _ (c .before .before .pre .laid .fine) in omega arith)
     (λ c κs. c .before .before .before .pre .laid .bounds .long)
     (λ c κs. c .before .before .before .before .pre .laid .bounds .long)
-    (λ c κs. let b = c .before .before .before .before .before .pre .laid .bounds in (b .long, b .records))
+    (λ c κs. let b = c .before .before .before .before .before .pre .laid .bounds in (b .long, b .records, b .width))
     leaders-match-log-requires
     returns
     (λ c κs. let laid = c .before .before .before .before .before .before .before .before .pre .laid in (laid .bounds, laid .layout))

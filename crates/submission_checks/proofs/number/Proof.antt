@@ -2,11 +2,13 @@
 -- Assumes nothing.
 use mathlib.Core.Path.{sym, _∙_}
 use native.Mathlib.Omega.{arith}
+use lib.Dec.{lit≤}
 use borrow.Author.Needs.{needs}
 use borrow.Author.Tests.{not-true, not-false}
 use Rattle.refusal.proofs.Laws.{passed, refused}
 use Rattle.roster.proofs.Accepted.{sizes, signature-bounds}
-use Rattle.submission.specs.Validate.{validate}
+use Rattle.log_chain.specs.Log.{version1}
+use Rattle.submission.specs.Validate.{formOf, validate}
 use Rattle.submission_parts.proofs.Inside.{bounds}
 use Rattle.submission_checks.proofs.Facts.{sized-long, trailer-passed}
 use Rattle.submission_checks.proofs.number.Statement.{statement}
@@ -49,10 +51,11 @@ part-number-requires c κs =
     let p = c .before .before .before .before .before .before .before .before .before .before .before .pre in (
       p,
       rw (c .signature-size .ensures .0)
-          (bounds _ _ (sym (c .before .before .before .before .before .before .before .before .size-in-range .ensures) ∙ not-false _ (c .before .before .before .before .before .before .before .if1 .left)) (sym (c .before .before .counts-in-range .ensures) ∙ not-false _ (c .before .if4 .left)) (signature-bounds _ p .1)),
+          (bounds _ _ _ (sym (c .before .before .before .before .before .before .before .before .size-in-range .ensures) ∙ not-false _ (c .before .before .before .before .before .before .before .if1 .left)) (sym (c .before .before .counts-in-range .ensures) ∙ not-false _ (c .before .if4 .left)) (lit≤ tt) (signature-bounds _ p .1)),
     )
 
 returns-5 : tie.Need-returns-5
+unfolding formOf version1
 returns-5 c =
     trailer-passed (c .before .before .before .before .before .before .before .before .before .before .before .before .args .roster .now) (c .before .before .before .before .before .before .before .before .before .before .before .before .args .s .now)
     (sym (c .before .before .before .before .before .before .before .before .before .size-in-range .ensures) ∙ not-false _ (c .before .before .before .before .before .before .before .before .if1 .left)) (sym (c .before .before .before .before .before .before .before .version-known .ensures) ∙ not-false _ (c .before .before .before .before .before .before .if2 .left))
