@@ -7,6 +7,7 @@ use mathlib.Core.List.{List, map}
 use mathlib.Core.Logic.{⊎-elim}
 use mathlib.Core.Option.{some, Option·some-ne-none}
 use Prim.Native.Nat.{ℕ, _+_, _*_, _^_, _≤_, _<_}
+use native.Mathlib.Nat.{le-trans, mul-le-mul-left}
 use native.Mathlib.Omega.{arith}
 use borrow.Author.Tests.{eqb-true, eqb-false, leb-true}
 use lib.Dec.{eqb, leb}
@@ -27,55 +28,57 @@ use Rattle.submission_parts.proofs.Inside.{records-inside, leaders-inside, comm
 use Rattle.submission_signatures.specs.Votes.{quorateAll}
 use Rattle.submission_signatures.specs.Checked.{Laid}
 
-module _ (roster : List ℕ) (S : ℕ) (s : List ℕ) where
+module _ (roster : List ℕ) (w S : ℕ) (s : List ℕ) where
   -- ---- places
 
-  module _ (laid : Laid roster S s) where
-    pub records-in : recordSize 4 * recordCount s ≤ length s
-    records-in = let b = laid .bounds in omega (arith, records-inside S s (laid .layout))
+  module _ (laid : Laid roster w S s) where
+    pub records-in : recordSize w * recordCount s ≤ length s
+    records-in = let b = laid .bounds in omega (arith, records-inside w S s (laid .layout))
 
-    pub upto-in : (i : ℕ) → i ≤ recordCount s → recordSize 4 * i ≤ length s
-    unfolding recordSize
-    upto-in i h = omega (arith, records-in)
+    pub upto-in : (i : ℕ) → i ≤ recordCount s → recordSize w * i ≤ length s
+    upto-in i h = le-trans (mul-le-mul-left (recordSize w) h) records-in
 
-    pub leaders-in : certificatesEnd 4 S s (leaderCount s) (recordSize 4 * recordCount s) ≤ length s
+    pub leaders-in : certificatesEnd w S s (leaderCount s) (recordSize w * recordCount s) ≤ length s
     unfolding leadersFrom
-    leaders-in = let b = laid .bounds in omega (arith, leaders-inside S s (laid .layout))
+    leaders-in = let b = laid .bounds in omega (arith, leaders-inside w S s (laid .layout))
 
     -- ---- signers
 
-    both : (quorateAll (replicas roster) (view 4 S s .leaders) ≡ true) × (every (quorate (replicas roster)) (commitSigners (view 4 S s .commit)) ≡ true)
+    both : (quorateAll (replicas roster) (view w S s .leaders) ≡ true) × (every (quorate (replicas roster)) (commitSigners (view w S s .commit)) ≡ true)
     unfolding masks quorateAll
-    both = cond-true _ _ (sym (every-append (quorate (replicas roster)) (map (λ c. c .signers) (view 4 S s .leaders)) (commitSigners (view 4 S s .commit))) ∙ laid .quorums)
+    both =
+        cond-true _ _
+        (sym (every-append (quorate (replicas roster)) (map (λ c. c .signers) (view w S s .leaders)) (commitSigners (view w S s .commit)))
+        ∙ laid .quorums)
 
-    pub leaders-quorate : quorateAll (replicas roster) (certificates 4 S s (leaderCount s) (recordSize 4 * recordCount s)) ≡ true
+    pub leaders-quorate : quorateAll (replicas roster) (certificates w S s (leaderCount s) (recordSize w * recordCount s)) ≡ true
     unfolding view leadersFrom
     leaders-quorate = both .0
 
-    pub commit-signers : (at : ℕ) → commitOf 4 S s ≡ some (commitAt s at) → signersAt s (at + 4) < 2 ^ replicas roster
+    pub commit-signers : (at : ℕ) → commitOf w S s ≡ some (commitAt s at) → signersAt s (at + 4) < 2 ^ replicas roster
     unfolding view commitSigners commitAt every
     commit-signers at e = quorate-facts (replicas roster) (signersAt s (at + 4)) (cond-true _ _ (rw e at (both .1)) .0) .1
 
     -- a commit certificate ends inside
-    pub commit-end-in : (at : ℕ) → at ≡ commitFrom 4 S s → commitOf 4 S s ≡ some (commitAt s at) → commitEnd S s at ≤ length s
+    pub commit-end-in : (at : ℕ) → at ≡ commitFrom w S s → commitOf w S s ≡ some (commitAt s at) → commitEnd S s at ≤ length s
     unfolding commitOf
     commit-end-in at place e =
         ⊎-elim
         (λ h. absurd (Option·some-ne-none (commitAt s at) (sym (rw h at e))))
-        (λ h. let b = laid .bounds in let i = commit-inside S s (laid .layout) (eqb-false _ _ h) in rw place (omega arith))
+        (λ h. let b = laid .bounds in let i = commit-inside w S s (laid .layout) (eqb-false _ _ h) in rw place (omega arith))
         (look (eqb (distance s 4) 0))
 
-module _ (S : ℕ) (s : List ℕ) where
+module _ (w S : ℕ) (s : List ℕ) where
   -- ---- counts
 
-  pub one-each : oneEach (view 4 S s) ≡ true → length (runs (recordsOf 4 (recordCount s) s)) ≡ leaderCount s
+  pub one-each : oneEach (view w S s) ≡ true → length (runs (recordsOf w (recordCount s) s)) ≡ leaderCount s
   unfolding oneEach view
-  one-each e = sym (eqb-true _ _ e) ∙ length-certificates 4 S s (leaderCount s) (leadersFrom 4 S s)
+  one-each e = sym (eqb-true _ _ e) ∙ length-certificates w S s (leaderCount s) (leadersFrom w S s)
 
-  pub commit-within : (at : ℕ) → commitOf 4 S s ≡ some (commitAt s at) → within (view 4 S s .commit) (length (view 4 S s .log)) ≡ true
+  pub commit-within : (at : ℕ) → commitOf w S s ≡ some (commitAt s at) → within (view w S s .commit) (length (view w S s .log)) ≡ true
       → numberAt 4 s at ≤ recordCount s
   unfolding view within commitAt
-  commit-within at e w =
-      let h : within (some (commitAt s at)) (length (recordsOf 4 (recordCount s) s)) ≡ true = rw e at w in
-      let q = all-cons (leb (numberAt 4 s at) (length (recordsOf 4 (recordCount s) s))) _ (all-cons _ _ h .1) in
-      rw (length-records 4 (recordCount s) s) at (leb-true (numberAt 4 s at) (length (recordsOf 4 (recordCount s) s)) (q .0))
+  commit-within at e inside =
+      let h : within (some (commitAt s at)) (length (recordsOf w (recordCount s) s)) ≡ true = rw e at inside in
+      let q = all-cons (leb (numberAt 4 s at) (length (recordsOf w (recordCount s) s))) _ (all-cons _ _ h .1) in
+      rw (length-records w (recordCount s) s) at (leb-true (numberAt 4 s at) (length (recordsOf w (recordCount s) s)) (q .0))

@@ -1,28 +1,31 @@
--- The bytes that the code puts together are those of the claim: a field's bytes are those of the number read from them, and the parts of a
--- vote stand one after the other.
+-- The bytes that the code puts together are those of the claim: a statement is read from its buffer as it was written, a field's bytes are
+-- those of the number read from them, and the parts of a vote stand one after the other.
 -- Assumes nothing.
-use mathlib.Core.Path.{_≡_, sym, ap, _∙_}
+use mathlib.Core.Path.{_≡_, refl, sym, ap, _∙_}
 use mathlib.Core.List.{List, [], _∷_, _++_, append-assoc}
 use mathlib.Core.Option.{some}
 use Prim.Native.Nat.{ℕ, _+_, _≤_, zero-le}
 use native.Mathlib.Nat.{add-assoc}
 use native.Mathlib.Omega.{arith}
-use lib.ListN.{length, take, drop, length-drop}
+use lib.ListN.{length, take, drop, length-append, length-drop}
 use lib.Seq.{length-take-le, take-add, drop-drop}
 use Rattle.words.specs.BigEndian.{be, number, numberAt}
+use Rattle.words.specs.Over.{over}
 use Rattle.words.proofs.Bytes.{Bytes}
 use Rattle.words.proofs.Laws.{bytes-take, bytes-drop, be-number}
+use Rattle.words.proofs.Over.{over-taken}
 use Rattle.refusal.specs.Checks.{every}
 use Rattle.roster.specs.Roster.{cluster, rosterNumber}
 use Rattle.roster.specs.Masks.{replicasOf}
 use Rattle.roster.proofs.Accepted.{key-inside}
-use Rattle.log_chain.specs.Log.{version1, Record, pointer, lastTerm}
+use Rattle.log_chain.specs.Log.{withTerms, Record, pointer, lastTerm}
 use Rattle.log_chain.specs.Claim.{stamped, received, voted, say, place, ballotBytes}
-use Rattle.log_chain.proofs.Pointers.{pointer-name}
+use Rattle.log_chain.specs.Sizes.{placeStatement}
+use Rattle.log_chain.proofs.Pointers.{pointer-form}
 use Rattle.submission.specs.View.{receiptsOf}
 use Rattle.log_chain.specs.Records.{recordsOf}
 use Rattle.submission.specs.Reading.{ballotSize, ballotAt, signersAt, certificateAt, commitAt}
-use Rattle.submission.specs.Validate.{genuine, formOf}
+use Rattle.submission.specs.Validate.{genuine}
 use Rattle.submission_slots.specs.Signatures.{goodAll}
 use Rattle.submission_signatures.specs.Votes.{ballots}
 use Rattle.log_chain.proofs.Records.{length-records}
@@ -34,6 +37,20 @@ use Rattle.submission_slots.proofs.Signed.{goodAll-certified}
 pub name-length : (roster : List ℕ) → rosterNumber roster ≡ 0 → length (cluster roster) ≡ 16
 unfolding cluster
 name-length roster fine = length-take-le 16 roster (omega (arith, key-inside roster fine 0 zero-le))
+
+-- ---- a statement in a buffer
+
+-- what a writer leaves of a buffer begins with what it wrote, read up to the number that it gave
+module _ (B e out : List ℕ) (end : ℕ) (size : end ≡ length B) (bytes : out ≡ over B e) where
+  pub written : take end out ≡ B
+  written = rw bytes (over-taken B e end size)
+
+  pub written-long : end ≡ length (take end out)
+  written-long = size ∙ sym (ap length written)
+
+  pub written-inside : end ≤ length out
+  unfolding over
+  written-inside = rw (bytes, size, length-append) (omega arith)
 
 -- ---- a vote
 
@@ -48,57 +65,58 @@ field-bytes w s at b h =
 joined : (n m : ℕ) (s : List ℕ) (at : ℕ) → take n (drop at s) ++ take m (drop (at + n) s) ≡ take (n + m) (drop at s)
 joined n m s at = rw (take-add, drop-drop)
 
-vote-said : (roster s : List ℕ) (at : ℕ) → Bytes s → at + 46 ≤ length s
-    → 3 ∷ cluster roster ++ take 46 (drop at s) ≡ say (formOf roster) (voted (ballotAt 4 s at))
-unfolding say ballotBytes ballotAt formOf version1
-vote-said roster s at b h =
-    let fields : be 2 (numberAt 2 s at) ++ be 4 (numberAt 4 s (at + 2)) ++ be 4 (numberAt 4 s (at + 2 + 4)) ++ be 4 (numberAt 4 s (at + 2 + 4 + 4))
-    ++ take 32 (drop (at + 2 + 4 + 4 + 4) s) ≡ take 46 (drop at s) =
+vote-said : (roster s : List ℕ) (w at : ℕ) → Bytes s → at + ballotSize w ≤ length s
+    → 3 ∷ cluster roster ++ take (ballotSize w) (drop at s) ≡ say (withTerms w (cluster roster)) (voted (ballotAt w s at))
+unfolding say ballotBytes ballotAt ballotSize
+vote-said roster s w at b h =
+    let fields : be 2 (numberAt 2 s at) ++ be w (numberAt w s (at + 2)) ++ be w (numberAt w s (at + 2 + w)) ++ be 4 (numberAt 4 s (at + 2 + w + w))
+    ++ take 32 (drop (at + 2 + w + w + 4) s) ≡ take (2 + w + w + 4 + 32) (drop at s) =
     rw (
       field-bytes 2 s at b (omega arith),
-      field-bytes 4 s (at + 2) b (omega arith),
-      field-bytes 4 s (at + 2 + 4) b (omega arith),
-      field-bytes 4 s (at + 2 + 4 + 4) b (omega arith),
-      joined 2 4 s at,
-      add-assoc at 2 4,
-      joined 6 4 s at,
-      add-assoc at 6 4,
-      joined 10 4 s at,
-      add-assoc at 10 4,
-      joined 14 32 s at,
+      field-bytes w s (at + 2) b (omega arith),
+      field-bytes w s (at + 2 + w) b (omega arith),
+      field-bytes 4 s (at + 2 + w + w) b (omega arith),
+      joined 2 w s at,
+      add-assoc at 2 w,
+      joined (2 + w) w s at,
+      add-assoc at (2 + w) w,
+      joined (2 + w + w) 4 s at,
+      add-assoc at (2 + w + w) 4,
+      joined (2 + w + w + 4) 32 s at,
     ) in
     rw fields
 
 -- the signatures on it are the certificate's votes
-pub vote-slots : (roster s : List ℕ) (S at : ℕ) → Bytes s → at + 46 ≤ length s
-    → goodAll roster (3 ∷ cluster roster ++ take 46 (drop at s)) S (replicasOf (numberAt 2 s (at + 46))) (drop (at + 46 + 2) s)
-    ≡ every (genuine (formOf roster) roster) (ballots S (certificateAt 4 s at))
-unfolding ballots certificateAt ballotSize signersAt
-vote-slots roster s S at b h = rw (vote-said roster s at b h) (goodAll-certified (formOf roster) roster S _ _ _)
+pub vote-slots : (roster s : List ℕ) (w S at : ℕ) → Bytes s → at + ballotSize w ≤ length s
+    → goodAll roster (3 ∷ cluster roster ++ take (ballotSize w) (drop at s)) S (replicasOf (numberAt 2 s (at + ballotSize w))) (drop (at + ballotSize w + 2) s)
+    ≡ every (genuine (withTerms w (cluster roster)) roster) (ballots S (certificateAt w s at))
+unfolding ballots certificateAt signersAt
+vote-slots roster s w S at b h = rw (vote-said roster s w at b h) (goodAll-certified (withTerms w (cluster roster)) roster S _ _ _)
 
 -- ---- a stamp and a receipt
 
-module _ (roster : List ℕ) (log : List Record) (term index : ℕ) (p : List ℕ) (long : length log ≡ index) (pointed : p ≡ pointer (version1 []) log) where
-  place-said : be 4 term ++ (be 4 index ++ p) ≡ place (formOf roster) term log
-  unfolding place formOf version1
-  place-said = rw (← append-assoc (be 4 term) (be 4 index) p, long, pointed, pointer-name (cluster roster) [] log)
+module _ (roster : List ℕ) (w : ℕ) (log : List Record) (term index : ℕ) (p : List ℕ) (long : length log ≡ index)
+    (pointed : p ≡ pointer (withTerms w []) log) where
+  place-said : be w term ++ (be 4 index ++ p) ≡ place (withTerms w (cluster roster)) term log
+  unfolding place
+  place-said = rw (← append-assoc (be w term) (be 4 index) p, long, pointed, pointer-form (withTerms w (cluster roster)) (withTerms w []) refl log)
 
-  pub stamp-said : 1 ∷ cluster roster ++ be 4 term ++ be 4 index ++ p ≡ say (formOf roster) (stamped term log)
-  unfolding say formOf version1
+  pub stamp-said : placeStatement 1 (cluster roster) w term index p ≡ say (withTerms w (cluster roster)) (stamped term log)
+  unfolding say
   stamp-said = rw (append-assoc, append-assoc) (ap (λ (l : List ℕ). 1 ∷ cluster roster ++ l) place-said)
 
-  receipt-said : 2 ∷ cluster roster ++ be 4 term ++ be 4 index ++ p ≡ say (formOf roster) (received term log)
-  unfolding say formOf version1
+  receipt-said : placeStatement 2 (cluster roster) w term index p ≡ say (withTerms w (cluster roster)) (received term log)
+  unfolding say
   receipt-said = rw (append-assoc, append-assoc) (ap (λ (l : List ℕ). 2 ∷ cluster roster ++ l) place-said)
 
 -- the signatures on a receipt's statement are the commit certificate's
-pub receipt-slots : (roster s : List ℕ) (S at records : ℕ) (p : List ℕ) → numberAt 4 s at ≤ records
-    → p ≡ pointer (version1 []) (recordsOf 4 (numberAt 4 s at) s)
-    → goodAll roster (2 ∷ cluster roster ++ be 4 (lastTerm (recordsOf 4 (numberAt 4 s at) s)) ++ be 4 (numberAt 4 s at) ++ p) S (replicasOf (numberAt 2 s (at + 4)))
-    (drop (at + 6) s)
-    ≡ every (genuine (formOf roster) roster) (receiptsOf S (some (commitAt s at)) (recordsOf 4 records s))
+pub receipt-slots : (roster s : List ℕ) (w S at records : ℕ) (p : List ℕ) → numberAt 4 s at ≤ records
+    → p ≡ pointer (withTerms w []) (recordsOf w (numberAt 4 s at) s)
+    → goodAll roster (placeStatement 2 (cluster roster) w (lastTerm (recordsOf w (numberAt 4 s at) s)) (numberAt 4 s at) p) S
+    (replicasOf (numberAt 2 s (at + 4))) (drop (at + 6) s)
+    ≡ every (genuine (withTerms w (cluster roster)) roster) (receiptsOf S (some (commitAt s at)) (recordsOf w records s))
 unfolding receiptsOf commitAt signersAt
-receipt-slots roster s S at records p h pointed =
+receipt-slots roster s w S at records p h pointed =
     let c = numberAt 4 s at in
-    rw (take-records 4 c records s h, receipt-said roster (recordsOf 4 c s) (lastTerm (recordsOf 4 c s)) c p (length-records 4 c s) pointed)
-    (goodAll-certified (formOf roster) roster S _ _ _)
+    rw (take-records w c records s h, receipt-said roster w (recordsOf w c s) (lastTerm (recordsOf w c s)) c p (length-records w c s) pointed)
+    (goodAll-certified (withTerms w (cluster roster)) roster S _ _ _)

@@ -31,8 +31,9 @@ fn stamps_good_from(
 ) -> bool
     requires { ⌜ Checked (now roster) width size (now s) × (i ≤ recordCount (now s))
         × (bytesOf before ≡ chain.pointer (chain.withTerms width []) (recordsOf width i (now s))) ⌝ }
-    ensures { λ r. ⌜ r ≡ every (genuine (chain.withTerms width (cluster (now (roster .entry)))) (now (roster .entry))) (map
-        (stampOf size) (leads (view width size (now (s .entry))))) ⌝ }
+    ensures { λ r. ⌜ r
+        ≡ every (genuine (chain.withTerms width (cluster (now (roster .entry)))) (now (roster .entry)))
+        (map (stampOf size) (leads (view width size (now (s .entry))))) ⌝ }
 {
     let records = submission_trailer::record_count(s);
     let end = log_terms::pointers::pointer_after(s, width, i, records, before);
@@ -46,10 +47,12 @@ fn stamps_good_from(
 // whose pointer the receipts have, then to the log's end.
 fn places_good(roster: &[u8], s: &[u8], width: usize, size: usize) -> bool
     requires { ⌜ Checked (now roster) width size (now s) ⌝ }
-    ensures { λ r. ⌜ r ≡ cond (every (genuine (chain.withTerms width (cluster (now (roster .entry)))) (now (roster .entry))) (map
-        (stampOf size) (leads (view width size (now (s .entry))))))
-        (every (genuine (chain.withTerms width (cluster (now (roster .entry)))) (now (roster .entry))) (receiptsOf size (view width size
-        (now (s .entry)) .commit) (view width size (now (s .entry)) .log))) false ⌝ }
+    ensures { λ r. ⌜ r
+        ≡ cond (every (genuine (chain.withTerms width (cluster (now (roster .entry)))) (now (roster .entry)))
+        (map (stampOf size) (leads (view width size (now (s .entry))))))
+        (every (genuine (chain.withTerms width (cluster (now (roster .entry)))) (now (roster .entry)))
+        (receiptsOf size (view width size (now (s .entry)) .commit) (view width size (now (s .entry)) .log)))
+        false ⌝ }
 {
     let CommitPart::Found(c, at) = submission_parts::commit_part(s, width, size) else {
         return stamps_good_from(
@@ -86,8 +89,9 @@ fn places_good(roster: &[u8], s: &[u8], width: usize, size: usize) -> bool
 // 15: whether every signature is good.
 pub fn all_signatures_good(roster: &[u8], s: &[u8], width: usize, size: usize) -> bool
     requires { ⌜ Checked (now roster) width size (now s) ⌝ }
-    ensures { λ r. ⌜ r ≡ every (genuine (chain.withTerms width (cluster (now (roster .entry)))) (now (roster .entry))) (slots size
-        (view width size (now (s .entry)))) ⌝ }
+    ensures { λ r. ⌜ r
+        ≡ every (genuine (chain.withTerms width (cluster (now (roster .entry)))) (now (roster .entry)))
+        (slots size (view width size (now (s .entry)))) ⌝ }
 {
     let leaders = submission_trailer::leader_count(s);
     let from = submission_parts::layout::leaders_from(s, width);

@@ -33,12 +33,13 @@ pub fn receipts_good(
     at: usize,
     pointer: State,
 ) -> bool
-    requires { ⌜ (rosterNumber (now roster) ≡ 0) × (width ≤ widthMost) × (recordSize width * records ≤ length (now s))
-        × (commitEnd size (now s) at ≤ length (now s))
+    requires { ⌜ (rosterNumber (now roster) ≡ 0) × (width ≤ widthMost)
+        × (recordSize width * records ≤ length (now s)) × (commitEnd size (now s) at ≤ length (now s))
         × (signersAt (now s) (at + 4) < 2 ^ replicas (now roster)) × (numberAt 4 (now s) at ≤ records)
         × (bytesOf pointer ≡ chain.pointer (chain.withTerms width []) (recordsOf width (numberAt 4 (now s) at)
         (now s))) ⌝ }
-    ensures { λ r. ⌜ r ≡ every (paper.genuine (chain.withTerms width (cluster (now (roster .entry)))) (now (roster .entry)))
+    ensures { λ r. ⌜ r
+        ≡ every (paper.genuine (chain.withTerms width (cluster (now (roster .entry)))) (now (roster .entry)))
         (receiptsOf size (some (commitAt (now (s .entry)) at)) (recordsOf width records (now (s .entry)))) ⌝ }
 {
     let index = words::u32_at(s, at);

@@ -35,8 +35,8 @@ fn stamp_good(
     index: u32,
     pointer: State,
 ) -> bool
-    requires { ⌜ (rosterNumber (now roster) ≡ 0) × (width ≤ widthMost) × (at + ballotSize width ≤ length (now s))
-        × (0 < numberAt 2 (now s) at)
+    requires { ⌜ (rosterNumber (now roster) ≡ 0) × (width ≤ widthMost)
+        × (at + ballotSize width ≤ length (now s)) × (0 < numberAt 2 (now s) at)
         × (numberAt 2 (now s) at ≤ replicas (now roster)) × (stamp + size ≤ length (now s)) ⌝ }
     ensures { λ r. ⌜ r ≡ good (keyOf (now (roster .entry)) (numberAt 2 (now (s .entry)) at)) (1
         ∷ cluster (now (roster .entry)) ++ be width (numberAt width (now (s .entry)) (at + 2)) ++ be 4 index
@@ -77,14 +77,17 @@ pub fn stamps_good(
 ) -> bool
     requires { ⌜ (rosterNumber (now roster) ≡ 0) × (width ≤ widthMost) × (records ≤ paper.recordMost)
         × (certificatesEnd width size (now s) leaders from ≤ length (now s))
-        × (stamps + leaders * size ≤ length (now s)) × (length (runs (recordsOf width records (now s))) ≡ leaders)
-        × (every (paper.leading (chain.withTerms width (cluster (now roster))) (replicas (now roster))) (leadsOf
-        (certificates width size (now s) leaders from) (runs (recordsOf width records (now s))) (stampsAt size
-        (now s) leaders stamps)) ≡ true)
+        × (stamps + leaders * size ≤ length (now s))
+        × (length (runs (recordsOf width records (now s))) ≡ leaders)
+        × (every (paper.leading (chain.withTerms width (cluster (now roster))) (replicas (now roster)))
+        (leadsOf (certificates width size (now s) leaders from) (runs (recordsOf width records (now s)))
+        (stampsAt size (now s) leaders stamps)) ≡ true)
         × (bytesOf pointer ≡ chain.pointer (chain.withTerms width []) (recordsOf width records (now s))) ⌝ }
-    ensures { λ r. ⌜ r ≡ every (paper.genuine (chain.withTerms width (cluster (now (roster .entry)))) (now (roster .entry))) (map
-        (stampOf size) (leadsOf (certificates width size (now (s .entry)) leaders from) (runs (recordsOf width records
-        (now (s .entry)))) (stampsAt size (now (s .entry)) leaders stamps))) ⌝ }
+    ensures { λ r. ⌜ r
+        ≡ every (paper.genuine (chain.withTerms width (cluster (now (roster .entry)))) (now (roster .entry)))
+        (map (stampOf size) (leadsOf (certificates width size (now (s .entry)) leaders from)
+        (runs (recordsOf width records (now (s .entry))))
+        (stampsAt size (now (s .entry)) leaders stamps))) ⌝ }
 {
     let mut left = leaders;
     let mut at = from;

@@ -23,7 +23,8 @@ fn votes_good_at(roster: &[u8], s: &[u8], width: usize, size: usize, at: usize) 
     requires { ⌜ (rosterNumber (now roster) ≡ 0) × (width ≤ widthMost)
         × (signersAt (now s) (at + ballotSize width) < 2 ^ replicas (now roster))
         × (certificateEnd width size (now s) at ≤ length (now s)) ⌝ }
-    ensures { λ r. ⌜ r ≡ every (paper.genuine (chain.withTerms width (cluster (now (roster .entry)))) (now (roster .entry)))
+    ensures { λ r. ⌜ r
+        ≡ every (paper.genuine (chain.withTerms width (cluster (now (roster .entry)))) (now (roster .entry)))
         (ballots size (certificateAt width (now (s .entry)) at)) ⌝ }
 {
     let end = at + submission::ballot_size(width);
@@ -56,7 +57,8 @@ pub fn votes_good(
     requires { ⌜ (rosterNumber (now roster) ≡ 0) × (width ≤ widthMost)
         × (certificatesEnd width size (now s) leaders from ≤ length (now s))
         × (quorateAll (replicas (now roster)) (certificates width size (now s) leaders from) ≡ true) ⌝ }
-    ensures { λ r. ⌜ r ≡ every (paper.genuine (chain.withTerms width (cluster (now (roster .entry)))) (now (roster .entry)))
+    ensures { λ r. ⌜ r
+        ≡ every (paper.genuine (chain.withTerms width (cluster (now (roster .entry)))) (now (roster .entry)))
         (flatMap (ballots size) (certificates width size (now (s .entry)) leaders from)) ⌝ }
 {
     let mut left = leaders;

@@ -13,43 +13,51 @@ use Rattle.submission_signatures.proofs.all_signatures_good.Tie as tie
 
 votes-good-requires : tie.Need-votes-good-requires
 votes-good-requires c κs =
-    let a = c .before .before .before .before .args in
-    let laid = c .before .before .before .before .pre .counted .laid in
+    let start = c .before .before .before .before in
+    let a = start .args in
+    let laid = start .pre .counted .laid in
     rw (c .before .leader-count .ensures .0, c .leaders-from .ensures) (
       laid .fine,
-      leaders-in (a .roster .now) (a .size) (a .s .now) laid,
-      leaders-quorate (a .roster .now) (a .size) (a .s .now) laid,
+      laid .bounds .width,
+      leaders-in (a .roster .now) (a .width) (a .size) (a .s .now) laid,
+      leaders-quorate (a .roster .now) (a .width) (a .size) (a .s .now) laid,
     )
 
 returns : tie.Need-returns
 unfolding view leadersFrom oneEach
 returns c =
-    let a = c .before .before .before .before .before .before .args in
+    let read = c .before .before .before in
+    let start = read .before .before .before in
+    let a = start .args in
+    let w = a .width in
     let S = a .size in
     let s = a .s .now in
-    let votes = rw (c .before .before .before .leader-count .ensures .0, c .before .before .leaders-from .ensures) at (c .before .votes-good .ensures) in
+    let votes = rw (read .leader-count .ensures .0, c .before .before .leaders-from .ensures) at (c .before .votes-good .ensures) in
     first-fails _ (sym votes ∙ not-true _ (c .if1 .taken))
-    ∙ sym (parts _ S (view 4 S s) (sym (eqb-true _ _ (c .before .before .before .before .before .before .pre .counted .count)))
-    (length-stamps 4 S s (leaderCount s) (stampsFrom 4 S s) ∙ sym (length-certificates 4 S s (leaderCount s) (leadersFrom 4 S s))))
+    ∙ sym (parts _ S (view w S s) (sym (eqb-true _ _ (start .pre .counted .count)))
+    (length-stamps w S s (leaderCount s) (stampsFrom w S s) ∙ sym (length-certificates w S s (leaderCount s) (leadersFrom w S s))))
 
 returns-2 : tie.Need-returns-2
 unfolding view leadersFrom oneEach
 returns-2 c =
-    let a = c .before .before .before .before .before .before .before .args in
+    let read = c .before .before .before .before in
+    let start = read .before .before .before in
+    let a = start .args in
+    let w = a .width in
     let S = a .size in
     let s = a .s .now in
-    let votes = rw (c .before .before .before .before .leader-count .ensures .0, c .before .before .before .leaders-from .ensures) at (c .before .before .votes-good .ensures) in
+    let votes = rw (read .leader-count .ensures .0, c .before .before .before .leaders-from .ensures) at (c .before .before .votes-good .ensures) in
     c .places-good .ensures
     ∙ first-holds _ (sym votes ∙ not-false _ (c .before .if1 .left))
-    ∙ sym (parts _ S (view 4 S s) (sym (eqb-true _ _ (c .before .before .before .before .before .before .before .pre .counted .count)))
-    (length-stamps 4 S s (leaderCount s) (stampsFrom 4 S s) ∙ sym (length-certificates 4 S s (leaderCount s) (leadersFrom 4 S s))))
+    ∙ sym (parts _ S (view w S s) (sym (eqb-true _ _ (start .pre .counted .count)))
+    (length-stamps w S s (leaderCount s) (stampsFrom w S s) ∙ sym (length-certificates w S s (leaderCount s) (leadersFrom w S s))))
 
 pub all-signatures-good-spec : {M : Type 1} → statement M
 all-signatures-good-spec =
     tie.close
     (tie.spec
     (λ c κs. c .before .before .pre .counted .laid .bounds .long)
-    (λ c κs. let b = c .before .before .before .pre .counted .laid .bounds in (b .long, b .records))
+    (λ c κs. let b = c .before .before .before .pre .counted .laid .bounds in (b .long, b .records, b .width))
     votes-good-requires
     returns
     (λ c κs. c .before .before .before .before .before .before .pre)

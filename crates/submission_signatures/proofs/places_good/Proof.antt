@@ -16,62 +16,87 @@ use Rattle.submission_signatures.proofs.places_good.Tie as tie
 returns : tie.Need-returns
 unfolding view
 returns c =
-    let a = c .before .before .before .before .before .before .before .args in
-    let none-there = absent-says (a .size) (a .s .now) (sym (c .before .before .before .before .commit-part .ensures) ∙ c .before .before .enum-told .given .1) in
-    c .stamps-good-from .ensures ∙ second-holds _ (no-receipts _ (a .size) (view 4 (a .size) (a .s .now)) none-there)
+    let read = c .before .before .before .before in
+    let a = read .before .before .before .args in
+    let none-there = absent-says (a .width) (a .size) (a .s .now) (sym (read .commit-part .ensures) ∙ c .before .before .enum-told .given .1) in
+    c .stamps-good-from .ensures ∙ second-holds _ (no-receipts _ (a .size) (view (a .width) (a .size) (a .s .now)) none-there)
 
 stamps-good-from-requires : tie.Need-stamps-good-from-requires
 unfolding recordsOf
-stamps-good-from-requires c κs = (c .before .before .before .before .before .before .pre, omega arith, c .pointer-zero .ensures)
+stamps-good-from-requires c κs =
+    let start = c .before .before .before .before .before .before in
+    (start .pre, omega arith, c .pointer-zero .ensures (start .args .width))
 
 pointer-after-requires : tie.Need-pointer-after-requires
 unfolding commitNumbersAt commitAt recordsOf
 pointer-after-requires c κs =
-    let a = c .before .before .before .before .before .before .before .before .args in
-    let p = c .before .before .before .before .before .before .before .before .pre in
+    let found = c .before .before .before in
+    let read = found .before .before in
+    let start = read .before .before .before in
+    let a = start .args in
+    let p = start .pre in
     let laid = p .counted .laid in
-    let told = found-says (a .size) (a .s .now) (sym (c .before .before .before .before .before .commit-part .ensures) ∙ c .before .before .before .c .given .1) in
-    let w = commit-within (a .size) (a .s .now) _ (told .2) (p .commit) in
-    rw (told .0)
-    (omega arith, omega (arith, w, laid .bounds .records), upto-in (a .roster .now) (a .size) (a .s .now) laid _ w, c .pointer-zero2 .ensures)
+    let told = found-says (a .width) (a .size) (a .s .now) (sym (read .commit-part .ensures) ∙ found .c .given .1) in
+    let inside = commit-within (a .width) (a .size) (a .s .now) _ (told .2) (p .commit) in
+    rw (told .0) (
+      laid .bounds .width,
+      omega arith,
+      omega (arith, inside, laid .bounds .records),
+      upto-in (a .roster .now) (a .width) (a .size) (a .s .now) laid _ inside,
+      c .pointer-zero2 .ensures (a .width),
+    )
 
 stamps-good-from-requires-2 : tie.Need-stamps-good-from-requires-2
 unfolding commitNumbersAt commitAt
 stamps-good-from-requires-2 c κs =
-    let a = c .before .before .before .before .before .before .before .before .before .args in
-    let p = c .before .before .before .before .before .before .before .before .before .pre in
-    let told = found-says (a .size) (a .s .now) (sym (c .before .before .before .before .before .before .commit-part .ensures) ∙ c .before .before .before .before .c .given .1) in
-    let w = commit-within (a .size) (a .s .now) _ (told .2) (p .commit) in
-    (p, rw (told .0) w, c .pointer-after .ensures)
+    let found = c .before .before .before .before in
+    let read = found .before .before in
+    let start = read .before .before .before in
+    let a = start .args in
+    let told = found-says (a .width) (a .size) (a .s .now) (sym (read .commit-part .ensures) ∙ found .c .given .1) in
+    let inside = commit-within (a .width) (a .size) (a .s .now) _ (told .2) (start .pre .commit) in
+    (start .pre, rw (told .0) inside, c .pointer-after .ensures)
 
 returns-2 : tie.Need-returns-2
 returns-2 c = first-fails _ (sym (c .before .stamps-good-from2 .ensures) ∙ not-true _ (c .if1 .taken))
 
+record-count-requires : tie.Need-record-count-requires
+record-count-requires c κs =
+    let found = c .before .before .before .before .before .before in
+    found .before .before .before .before .before .pre .counted .laid .bounds .long
+
 receipts-good-requires : tie.Need-receipts-good-requires
 unfolding commitNumbersAt commitAt
 receipts-good-requires c κs =
-    let a = c .before .before .before .before .before .before .before .before .before .before .before .before .args in
-    let p = c .before .before .before .before .before .before .before .before .before .before .before .before .pre in
+    let pointed = c .before .before .before in
+    let found = pointed .before .before .before .before in
+    let read = found .before .before in
+    let start = read .before .before .before in
+    let a = start .args in
+    let p = start .pre in
     let laid = p .counted .laid in
-    let told = found-says (a .size) (a .s .now) (sym (c .before .before .before .before .before .before .before .before .before .commit-part .ensures) ∙ c .before .before .before .before .before .before .before .c .given .1) in
-    let w = commit-within (a .size) (a .s .now) _ (told .2) (p .commit) in
-    let pointed = rw (told .0) at (c .before .before .before .pointer-after .ensures) in
+    let told = found-says (a .width) (a .size) (a .s .now) (sym (read .commit-part .ensures) ∙ found .c .given .1) in
     rw (c .record-count .ensures .0) (
       laid .fine,
-      records-in (a .roster .now) (a .size) (a .s .now) laid,
-      commit-end-in (a .roster .now) (a .size) (a .s .now) laid _ (told .1) (told .2),
-      commit-signers (a .roster .now) (a .size) (a .s .now) laid _ (told .2),
-      w,
-      pointed,
+      laid .bounds .width,
+      records-in (a .roster .now) (a .width) (a .size) (a .s .now) laid,
+      commit-end-in (a .roster .now) (a .width) (a .size) (a .s .now) laid _ (told .1) (told .2),
+      commit-signers (a .roster .now) (a .width) (a .size) (a .s .now) laid _ (told .2),
+      commit-within (a .width) (a .size) (a .s .now) _ (told .2) (p .commit),
+      rw (told .0) at (pointed .pointer-after .ensures),
     )
 
 returns-3 : tie.Need-returns-3
 unfolding view
 returns-3 c =
-    let a = c .before .before .before .before .before .before .before .before .before .before .before .before .before .args in
-    let told = found-says (a .size) (a .s .now) (sym (c .before .before .before .before .before .before .before .before .before .before .commit-part .ensures) ∙ c .before .before .before .before .before .before .before .before .c .given .1) in
+    let stamps = c .before .before .before in
+    let found = stamps .before .before .before .before .before in
+    let read = found .before .before in
+    let a = read .before .before .before .args in
+    let told = found-says (a .width) (a .size) (a .s .now) (sym (read .commit-part .ensures) ∙ found .c .given .1) in
     let asked = rw (c .before .record-count .ensures .0) at (c .receipts-good .ensures) in
-    with-receipts _ (a .size) (view 4 (a .size) (a .s .now)) (told .2) (sym (c .before .before .before .stamps-good-from2 .ensures) ∙ not-false _ (c .before .before .if1 .left)) asked
+    with-receipts _ (a .size) (view (a .width) (a .size) (a .s .now)) (told .2)
+    (sym (stamps .stamps-good-from2 .ensures) ∙ not-false _ (c .before .before .if1 .left)) asked
 
 pub places-good-spec : {M : Type 1} → statement M
 places-good-spec =
@@ -88,6 +113,6 @@ places-good-spec =
     pointer-after-requires
     stamps-good-from-requires-2
     returns-2
-    (λ c κs. c .before .before .before .before .before .before .before .before .before .before .before .pre .counted .laid .bounds .long)
+    record-count-requires
     receipts-good-requires
     returns-3)

@@ -12,24 +12,33 @@ pointer-after-requires : tie.Need-pointer-after-requires
 pointer-after-requires c κs =
     let p = c .before .before .before .pre in
     let laid = p .0 .counted .laid in
-    rw (c .record-count .ensures .0) (p .1, omega (arith, laid .bounds .records), records-in _ _ _ laid, p .2)
+    rw (c .record-count .ensures .0) (laid .bounds .width, p .1, omega (arith, laid .bounds .records), records-in _ _ _ _ laid, p .2)
 
 stamps-good-requires : tie.Need-stamps-good-requires
 unfolding leads view leadersFrom
 stamps-good-requires c κs =
-    let a = c .before .before .before .before .before .before .before .args in
-    let p = c .before .before .before .before .before .before .before .pre in
+    let read = c .before .before .before .before in
+    let start = read .before .before .before in
+    let a = start .args in
+    let p = start .pre in
     let laid = p .0 .counted .laid in
-    let place = stamps-place (a .size) (a .s .now) (laid .layout) in
-    let inside = stamps-inside (a .size) (a .s .now) (laid .layout) in
+    let place = stamps-place (a .width) (a .size) (a .s .now) (laid .layout) in
+    let inside = stamps-inside (a .width) (a .size) (a .s .now) (laid .layout) in
     let b = laid .bounds in
-    let ended = rw (c .before .before .before .before .record-count .ensures .0) at (c .before .before .before .pointer-after .ensures) in
-    rw (c .before .before .before .before .record-count .ensures .0, c .before .before .leader-count .ensures .0, c .before .leaders-from .ensures, c .stamps-from .ensures, ← place .1) (
+    let ended = rw (read .record-count .ensures .0) at (c .before .before .before .pointer-after .ensures) in
+    rw (
+      read .record-count .ensures .0,
+      c .before .before .leader-count .ensures .0,
+      c .before .leaders-from .ensures,
+      c .stamps-from .ensures,
+      ← place .1,
+    ) (
       laid .fine,
+      b .width,
       b .records,
-      leaders-in (a .roster .now) (a .size) (a .s .now) laid,
+      leaders-in (a .roster .now) (a .width) (a .size) (a .s .now) laid,
       omega arith,
-      one-each (a .size) (a .s .now) (p .0 .counted .count),
+      one-each (a .width) (a .size) (a .s .now) (p .0 .counted .count),
       p .0 .leaders,
       ended,
     )
@@ -37,9 +46,17 @@ stamps-good-requires c κs =
 returns : tie.Need-returns
 unfolding leads view leadersFrom
 returns c =
-    let a = c .before .before .before .before .before .before .before .before .args in
-    let place = stamps-place (a .size) (a .s .now) (c .before .before .before .before .before .before .before .before .pre .0 .counted .laid .layout) in
-    rw (c .before .before .before .before .before .record-count .ensures .0, c .before .before .before .leader-count .ensures .0, c .before .before .leaders-from .ensures, c .before .stamps-from .ensures, ← place .1) at (c .stamps-good .ensures)
+    let read = c .before .before .before .before .before in
+    let start = read .before .before .before in
+    let a = start .args in
+    let place = stamps-place (a .width) (a .size) (a .s .now) (start .pre .0 .counted .laid .layout) in
+    rw (
+      read .record-count .ensures .0,
+      c .before .before .before .leader-count .ensures .0,
+      c .before .before .leaders-from .ensures,
+      c .before .stamps-from .ensures,
+      ← place .1,
+    ) at (c .stamps-good .ensures)
 
 pub stamps-good-from-spec : {M : Type 1} → statement M
 stamps-good-from-spec =
@@ -48,7 +65,7 @@ stamps-good-from-spec =
     (λ c κs. c .before .before .pre .0 .counted .laid .bounds .long)
     pointer-after-requires
     (λ c κs. c .before .before .before .before .pre .0 .counted .laid .bounds .long)
-    (λ c κs. let b = c .before .before .before .before .before .pre .0 .counted .laid .bounds in (b .long, b .records))
-    (λ c κs. let laid = c .before .before .before .before .before .before .pre .0 .counted .laid in (laid .bounds .long, stamps-place _ _ (laid .layout) .0))
+    (λ c κs. let b = c .before .before .before .before .before .pre .0 .counted .laid .bounds in (b .long, b .records, b .width))
+    (λ c κs. let laid = c .before .before .before .before .before .before .pre .0 .counted .laid in (laid .bounds .long, stamps-place _ _ _ (laid .layout) .0))
     stamps-good-requires
     returns)

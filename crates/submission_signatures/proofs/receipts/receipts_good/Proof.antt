@@ -1,21 +1,22 @@
 -- The statement has the term, index and pointer of the record that the certificate names.
 -- Assumes nothing.
-use mathlib.Core.Path.{sym, ap, ap₂, _∙_}
-use mathlib.Core.List.{List, _∷_, _++_}
+use mathlib.Core.Path.{_≡_, sym, ap, ap₂, _∙_}
+use mathlib.Core.List.{List}
 use Prim.Native.Nat.{ℕ, _+_, _≤_}
+use native.Mathlib.Nat.{le-trans, mul-le-mul-left}
 use native.Mathlib.Omega.{arith}
-use lib.ListN.{length, drop}
-use Rattle.words.specs.BigEndian.{be}
+use borrow.Author.Needs.{needs}
+use lib.ListN.{length, take, drop, length-take}
 use Rattle.sha256.specs.Service.{limit}
 use Rattle.sha256.specs.Sha256.{bytesOf}
 use Rattle.roster.specs.Roster.{cluster}
 use Rattle.roster.specs.Masks.{replicasOf}
 use Rattle.log_chain.specs.Log.{lastTerm}
 use Rattle.log_chain.specs.Records.{recordSize, recordsOf}
+use Rattle.log_chain.specs.Sizes.{placeStatement}
 use Rattle.submission.specs.Reading.{signersAt, commitEnd}
 use Rattle.submission_slots.specs.Signatures.{goodAll}
-use Rattle.submission_signatures.proofs.Said.{name-length, receipt-slots}
-use borrow.Author.Needs.{needs}
+use Rattle.submission_signatures.proofs.Said.{name-length, written, written-long, written-inside, receipt-slots}
 use Rattle.submission_signatures.proofs.receipts.receipts_good.Statement.{statement}
 use Rattle.submission_signatures.proofs.receipts.receipts_good.Tie as tie
 
@@ -24,18 +25,31 @@ unfolding commitEnd
 u32-at-requires c κs = omega arith
 
 last-term-requires : tie.Need-last-term-requires
-unfolding recordSize
-last-term-requires c κs = omega (arith, c .u32-at .ensures .0)
+last-term-requires c κs =
+    let start = c .before .before .before in
+    let few : c .u32-at .result ≤ start .args .records = omega (arith, c .u32-at .ensures .0, start .pre .5) in
+    let inside = le-trans (mul-le-mul-left (recordSize (start .args .width)) few) (start .pre .2) in
+    search (start .pre .1, inside, start .pre .2)
 
-slice-aggregate-place-statement : tie.Need-slice-aggregate-place-statement
+slice-aggregate-put-place-statement-2 : tie.Need-slice-aggregate-put-place-statement-2
 unfolding cluster
-slice-aggregate-place-statement c =
-    let start = c .before .before .before .before .before in sym (name-length (start .args .roster .now) (start .pre .0))
+slice-aggregate-put-place-statement-2 c =
+    let start = c .before .before .before .before .before .before in sym (name-length (start .args .roster .now) (start .pre .0))
 
-place-statement-requires : tie.Need-place-statement-requires
+put-place-statement-requires : tie.Need-put-place-statement-requires
 unfolding cluster
-place-statement-requires c κs =
-    let start = c .before .before .before .before .before in name-length (start .args .roster .now) (start .pre .0)
+put-place-statement-requires c κs =
+    let start = c .before .before .before .before .before .before in
+    let name = name-length (start .args .roster .now) (start .pre .0) in
+    (start .pre .1, omega (arith, start .pre .1, name))
+
+array-share-prefix-statement : tie.Need-array-share-prefix-statement
+array-share-prefix-statement c =
+    let put = c .before .put-place-statement in written-inside _ _ _ _ (put .ensures .0) (put .ensures .1)
+
+slice-aggregate-certificate-signatures-good : tie.Need-slice-aggregate-certificate-signatures-good
+slice-aggregate-certificate-signatures-good c =
+    let put = c .before .before .put-place-statement in written-long _ _ _ _ (put .ensures .0) (put .ensures .1)
 
 add-u16-at : tie.Need-add-u16-at
 unfolding commitEnd
@@ -52,35 +66,43 @@ add-certificate-signatures-good c = omega arith
 certificate-signatures-good-requires : tie.Need-certificate-signatures-good-requires
 unfolding commitEnd signersAt
 certificate-signatures-good-requires c κs =
-    let start = c .before .before .before .before .before .before .before .before in
+    let put = c .before .before .before in
+    let start = put .before .before .before .before .before .before .before in
     let mask = c .u16-at .ensures .0 in
-    let long : length (c .before .before .place-statement .result) ≤ limit = search needs in
-    (start .pre .0, long, rw mask (start .pre .3), rw mask (start .pre .2))
+    let room : length (put .put-place-statement .last .0) ≡ 71 = search needs in
+    let long : length (take (put .put-place-statement .result) (put .put-place-statement .last .0)) ≤ limit = rw length-take (omega (arith, room)) in
+    (start .pre .0, long, rw mask (start .pre .4), rw mask (start .pre .3))
 
 returns : tie.Need-returns
 unfolding cluster
 returns c =
-    let start = c .before .before .before .before .before .before .before .before .before in
+    let put = c .before .before .before .before in
+    let read = put .before .before .before in
+    let start = read .before .before .before .before in
     let a = start .args in
     let roster = a .roster .now in
     let s = a .s .now in
-    let index = c .before .before .before .before .before .before .u32-at .ensures .0 in
-    let term = c .before .before .before .before .before .last-term .ensures ∙ ap (λ (i : ℕ). lastTerm (recordsOf 4 i s)) index in
+    let w = a .width in
+    let index = read .before .u32-at .ensures .0 in
+    let term = read .last-term .ensures ∙ ap (λ (i : ℕ). lastTerm (recordsOf w i s)) index in
     c .certificate-signatures-good .ensures
     ∙ ap₂ (λ (m : List ℕ) (mask : ℕ). goodAll roster m (a .size) (replicasOf mask) (drop (a .at + 6) s))
-    (c .before .before .before .place-statement .ensures
-    ∙ ap₂ (λ (t i : ℕ). 2 ∷ cluster roster ++ be 4 t ++ be 4 i ++ bytesOf (a .pointer)) term index) (c .before .u16-at .ensures .0)
-    ∙ receipt-slots roster s (a .size) (a .at) (a .records) (bytesOf (a .pointer)) (start .pre .4) (start .pre .5)
+    (written _ _ _ _ (put .put-place-statement .ensures .0) (put .put-place-statement .ensures .1)
+    ∙ ap₂ (λ (t i : ℕ). placeStatement 2 (cluster roster) w t i (bytesOf (a .pointer))) term index) (c .before .u16-at .ensures .0)
+    ∙ receipt-slots roster s w (a .size) (a .at) (a .records) (bytesOf (a .pointer)) (start .pre .5) (start .pre .6)
 
 pub receipts-good-spec : {M : Type 1} → statement M
 receipts-good-spec =
     tie.close
-    (tie.spec u32-at-requires
+    (tie.spec
+    u32-at-requires
     (λ c. search needs)
     last-term-requires
-    slice-aggregate-place-statement
-    place-statement-requires
     (λ c. search needs)
+    slice-aggregate-put-place-statement-2
+    put-place-statement-requires
+    array-share-prefix-statement
+    slice-aggregate-certificate-signatures-good
     add-u16-at
     u16-at-requires
     add-certificate-signatures-good

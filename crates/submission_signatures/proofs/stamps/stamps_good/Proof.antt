@@ -6,12 +6,13 @@ use Prim.Native.Nat.{_+_, _*_, _≤_}
 use native.Mathlib.Omega.{arith}
 use lib.ListN.{length}
 use Rattle.refusal.specs.Checks.{every}
-use Rattle.log_chain.specs.Log.{version1, pointer}
+use Rattle.roster.specs.Roster.{cluster}
+use Rattle.log_chain.specs.Log.{withTerms, pointer}
 use Rattle.log_chain.specs.Runs.{runs}
 use Rattle.submission.specs.View.{leadsOf, stampOf}
 use Rattle.log_chain.specs.Records.{recordsOf}
-use Rattle.submission.specs.Reading.{certificates, certificatesEnd, stampsAt}
-use Rattle.submission.specs.Validate.{genuine, formOf}
+use Rattle.submission.specs.Reading.{ballotSize, certificates, certificatesEnd, stampsAt}
+use Rattle.submission.specs.Validate.{genuine}
 use Rattle.log_chain.proofs.Records.{length-records}
 use Rattle.submission.proofs.Certificates.{rest-inside, first-inside}
 use Rattle.submission_signatures.proofs.Turns.{fields-room, next-fields, stamps-room}
@@ -22,68 +23,77 @@ use Rattle.submission_signatures.proofs.stamps.stamps_good.Statement.{s
 use Rattle.submission_signatures.proofs.stamps.stamps_good.Tie as tie
 
 abbrev Inv-loop : tie.InvT-loop
-Inv-loop roster s size records leaders from stamps pointer left₀ at₀ stamp₀ left at stamp =
-    (certificatesEnd 4 size s left at ≤ length s) × (stamp + left * size ≤ length s)
-    × StampsLeft roster s size (recordsOf 4 records s)
-    (every (genuine (formOf roster) roster) (map (stampOf size) (leadsOf (certificates 4 size s leaders from) (runs (recordsOf 4 records s)) (stampsAt size s leaders stamps))))
+Inv-loop roster s w size records leaders from stamps pointer left₀ at₀ stamp₀ left at stamp =
+    (certificatesEnd w size s left at ≤ length s) × (stamp + left * size ≤ length s)
+    × StampsLeft roster s w size (recordsOf w records s)
+    (every (genuine (withTerms w (cluster roster)) roster)
+    (map (stampOf size) (leadsOf (certificates w size s leaders from) (runs (recordsOf w records s)) (stampsAt size s leaders stamps))))
     left at stamp
 
 abbrev μ-loop : tie.MeasureT-loop
-μ-loop roster s size records leaders from stamps pointer left₀ at₀ stamp₀ left at stamp = left
+μ-loop roster s w size records leaders from stamps pointer left₀ at₀ stamp₀ left at stamp = left
 
 loop-holds : tie.Need-loop-holds Inv-loop μ-loop
 unfolding leadsFrom
 loop-holds c =
     let start = c .before .before in
-    let log = recordsOf 4 (start .args .records) (start .args .s .now) in (
-      start .pre .2,
+    let log = recordsOf (start .args .width) (start .args .records) (start .args .s .now) in (
       start .pre .3,
+      start .pre .4,
       record {
         before = [];
         runs = runs log;
-        terms = record { linked = linked-runs log; count = start .pre .4; leaders = start .pre .5 };
+        terms = record { linked = linked-runs log; count = start .pre .5; leaders = start .pre .6 };
         answer = refl;
       },
     )
 
 certificate-end-requires : tie.Need-certificate-end-requires Inv-loop μ-loop
 certificate-end-requires c κs =
-    let a = c .before .before .before .before .args in
+    let start = c .before .before .before .before in
+    let a = start .args in
     let l = c .before .loop in
-    first-inside 4 (a .size) (a .s .now) (l .left) (l .at) (omega arith) (l .inv .0)
+    (start .pre .1, first-inside (a .width) (a .size) (a .s .now) (l .left) (l .at) (omega arith) (l .inv .0))
 
-add-u32-at : tie.Need-add-u32-at Inv-loop μ-loop
-add-u32-at c =
-    let a = c .before .before .before .before .before .args in
-    let l = c .before .before .loop in
-    rw (c .certificate-end .ensures) (omega (arith, next-fields (a .size) (a .s .now) (l .left) (l .at) (omega arith) (l .inv .0)))
+add-last-index : tie.Need-add-last-index Inv-loop μ-loop
+unfolding ballotSize
+add-last-index c =
+    let l = c .before .before .loop in rw (c .certificate-end .ensures) (omega (arith, next-fields _ _ _ (l .left) (l .at) (omega arith) (l .inv .0)))
+
+add-last-index-2 : tie.Need-add-last-index-2 Inv-loop μ-loop
+unfolding ballotSize
+add-last-index-2 c =
+    let l = c .before .before .loop in rw (c .certificate-end .ensures) (omega (arith, next-fields _ _ _ (l .left) (l .at) (omega arith) (l .inv .0)))
+
+add-last-index-3 : tie.Need-add-last-index-3 Inv-loop μ-loop
+unfolding ballotSize
+add-last-index-3 c =
+    let l = c .before .before .loop in rw (c .certificate-end .ensures) (omega (arith, next-fields _ _ _ (l .left) (l .at) (omega arith) (l .inv .0)))
 
 u32-at-requires : tie.Need-u32-at-requires Inv-loop μ-loop
+unfolding ballotSize
 u32-at-requires c κs =
-    let a = c .before .before .before .before .before .args in
-    let l = c .before .before .loop in
-    rw (c .certificate-end .ensures) (omega (arith, next-fields (a .size) (a .s .now) (l .left) (l .at) (omega arith) (l .inv .0)))
+    let l = c .before .before .loop in rw (c .certificate-end .ensures) (omega (arith, next-fields _ _ _ (l .left) (l .at) (omega arith) (l .inv .0)))
 
 add-value-at : tie.Need-add-value-at Inv-loop μ-loop
+unfolding ballotSize
 add-value-at c =
-    let a = c .before .before .before .before .before .before .args in
-    let l = c .before .before .before .loop in
-    rw (c .before .certificate-end .ensures) (omega (arith, next-fields (a .size) (a .s .now) (l .left) (l .at) (omega arith) (l .inv .0)))
+    let l = c .before .before .before .loop in rw (c .before .certificate-end .ensures) (omega (arith, next-fields _ _ _ (l .left) (l .at) (omega arith) (l .inv .0)))
 
 value-at-requires : tie.Need-value-at-requires Inv-loop μ-loop
+unfolding ballotSize
 value-at-requires c κs =
-    let a = c .before .before .before .before .before .before .args in
-    let l = c .before .before .before .loop in
-    rw (c .before .certificate-end .ensures) (omega (arith, next-fields (a .size) (a .s .now) (l .left) (l .at) (omega arith) (l .inv .0)))
+    let l = c .before .before .before .loop in rw (c .before .certificate-end .ensures) (omega (arith, next-fields _ _ _ (l .left) (l .at) (omega arith) (l .inv .0)))
 
 stamp-good-requires : tie.Need-stamp-good-requires Inv-loop μ-loop
 stamp-good-requires c κs =
     let start = c .before .before .before .before .before .before .before in
     let a = start .args in
     let l = c .before .before .before .before .loop in
-    let t = this (a .roster .now) (a .s .now) (a .size) _ (l .left) (l .at) (l .stamp) (l .inv .2) (omega arith) in (
+    let t = this (a .roster .now) (a .s .now) (a .width) (a .size) _ (l .left) (l .at) (l .stamp) (l .inv .2) (omega arith) in (
       start .pre .0,
-      fields-room (a .size) (a .s .now) (l .left) (l .at) (omega arith) (l .inv .0),
+      start .pre .1,
+      fields-room (a .width) (a .size) (a .s .now) (l .left) (l .at) (omega arith) (l .inv .0),
       t .facts .low,
       t .facts .high,
       omega (arith, stamps-room (a .size) (a .s .now) (l .left) (l .stamp) (omega arith) (l .inv .1)),
@@ -93,9 +103,9 @@ returns : tie.Need-returns Inv-loop μ-loop
 returns c =
     let a = c .before .before .before .before .before .before .before .before .before .args in
     let l = c .before .before .before .before .before .before .loop in
-    let place = not-last (a .roster .now) (a .s .now) (a .size) _ (l .left) (l .at) (l .stamp) (l .inv .2) (omega arith) (omega arith) _ _ _
+    let place = not-last (a .roster .now) (a .s .now) (a .width) (a .size) _ (l .left) (l .at) (l .stamp) (l .inv .2) (omega arith) (omega arith) _ _ _
     (c .before .before .before .before .certificate-end .ensures) (c .before .before .before .u32-at .ensures .0) (c .before .before .value-at .ensures) in
-    stamp-fail (a .roster .now) (a .s .now) (a .size) _ (l .left) (l .at) (l .stamp) (l .inv .2) (omega arith) _ _ (place .0) (place .1)
+    stamp-fail (a .roster .now) (a .s .now) (a .width) (a .size) _ (l .left) (l .at) (l .stamp) (l .inv .2) (omega arith) _ _ (place .0) (place .1)
     (c .before .stamp-good .ensures) (c .if1 .taken)
 
 add-stamp : tie.Need-add-stamp Inv-loop μ-loop
@@ -109,12 +119,12 @@ loop-again c =
     let a = c .before .before .before .before .before .before .before .before .before .args in
     let l = c .before .before .before .before .before .before .loop in
     let next = c .before .before .before .before .certificate-end .ensures in
-    let place = not-last (a .roster .now) (a .s .now) (a .size) _ (l .left) (l .at) (l .stamp) (l .inv .2) (omega arith) (omega arith) _ _ _
+    let place = not-last (a .roster .now) (a .s .now) (a .width) (a .size) _ (l .left) (l .at) (l .stamp) (l .inv .2) (omega arith) (omega arith) _ _ _
     next (c .before .before .before .u32-at .ensures .0) (c .before .before .value-at .ensures) in
     rw next (
-      rest-inside 4 (a .size) (a .s .now) (l .left) (l .at) (omega arith) (l .inv .0),
+      rest-inside (a .width) (a .size) (a .s .now) (l .left) (l .at) (omega arith) (l .inv .0),
       stamps-room (a .size) (a .s .now) (l .left) (l .stamp) (omega arith) (l .inv .1),
-      stamp-next (a .roster .now) (a .s .now) (a .size) _ (l .left) (l .at) (l .stamp) (l .inv .2) (omega arith) _ _ (place .0) (place .1)
+      stamp-next (a .roster .now) (a .s .now) (a .width) (a .size) _ (l .left) (l .at) (l .stamp) (l .inv .2) (omega arith) _ _ (place .0) (place .1)
           (c .before .stamp-good .ensures) (c .if1 .left),
     )
 
@@ -122,16 +132,17 @@ returns-2 : tie.Need-returns-2 Inv-loop μ-loop
 returns-2 c =
     let a = c .before .before .before .before .before .args in
     let l = c .before .before .loop in
-    stamps-done (a .roster .now) (a .s .now) (a .size) _ (l .left) (l .at) (l .stamp) (l .inv .2) (omega arith)
+    stamps-done (a .roster .now) (a .s .now) (a .width) (a .size) _ (l .left) (l .at) (l .stamp) (l .inv .2) (omega arith)
 
 stamp-good-requires-2 : tie.Need-stamp-good-requires-2 Inv-loop μ-loop
 stamp-good-requires-2 c κs =
     let start = c .before .before .before .before .before in
     let a = start .args in
     let l = c .before .before .loop in
-    let t = this (a .roster .now) (a .s .now) (a .size) _ (l .left) (l .at) (l .stamp) (l .inv .2) (omega arith) in (
+    let t = this (a .roster .now) (a .s .now) (a .width) (a .size) _ (l .left) (l .at) (l .stamp) (l .inv .2) (omega arith) in (
       start .pre .0,
-      fields-room (a .size) (a .s .now) (l .left) (l .at) (omega arith) (l .inv .0),
+      start .pre .1,
+      fields-room (a .width) (a .size) (a .s .now) (l .left) (l .at) (omega arith) (l .inv .0),
       t .facts .low,
       t .facts .high,
       omega (arith, stamps-room (a .size) (a .s .now) (l .left) (l .stamp) (omega arith) (l .inv .1)),
@@ -142,9 +153,10 @@ returns-3 c =
     let start = c .before .before .before .before .before .before in
     let a = start .args in
     let l = c .before .before .before .loop in
-    let end = is-last (a .roster .now) (a .s .now) (a .size) _ (l .left) (l .at) (l .stamp) (l .inv .2) (omega arith) (omega arith) in
-    stamp-last (a .roster .now) (a .s .now) (a .size) _ (l .left) (l .at) (l .stamp) (l .inv .2) (omega arith) _ _
-    (ap length end ∙ length-records 4 (a .records) (a .s .now)) (start .pre .6 ∙ ap (pointer (version1 [])) (sym end)) (c .stamp-good2 .ensures) (omega arith)
+    let end = is-last (a .roster .now) (a .s .now) (a .width) (a .size) _ (l .left) (l .at) (l .stamp) (l .inv .2) (omega arith) (omega arith) in
+    stamp-last (a .roster .now) (a .s .now) (a .width) (a .size) _ (l .left) (l .at) (l .stamp) (l .inv .2) (omega arith) _ _
+    (ap length end ∙ length-records (a .width) (a .records) (a .s .now)) (start .pre .7 ∙ ap (pointer (withTerms (a .width) [])) (sym end))
+    (c .stamp-good2 .ensures) (omega arith)
 
 pub stamps-good-spec : {M : Type 1} → statement M
 stamps-good-spec =
@@ -154,7 +166,9 @@ stamps-good-spec =
     μ-loop
     loop-holds
     certificate-end-requires
-    add-u32-at
+    add-last-index
+    add-last-index-2
+    add-last-index-3
     u32-at-requires
     add-value-at
     value-at-requires

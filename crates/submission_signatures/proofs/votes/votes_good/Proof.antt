@@ -7,9 +7,10 @@ use Prim.Native.Nat.{_≤_}
 use native.Mathlib.Omega.{arith}
 use lib.ListN.{length}
 use Rattle.refusal.specs.Checks.{every}
-use Rattle.roster.specs.Roster.{replicas}
+use Rattle.roster.specs.Roster.{cluster, replicas}
+use Rattle.log_chain.specs.Log.{withTerms}
 use Rattle.submission.specs.Reading.{certificates, certificatesEnd}
-use Rattle.submission.specs.Validate.{genuine, formOf}
+use Rattle.submission.specs.Validate.{genuine}
 use Rattle.submission_signatures.specs.Votes.{ballots, quorateAll}
 use Rattle.submission.proofs.Certificates.{rest-inside, first-inside}
 use Rattle.submission_signatures.proofs.Turns.{first-signers, rest-quorums, votes-fail, votes-next, votes-done}
@@ -17,16 +18,16 @@ use Rattle.submission_signatures.proofs.votes.votes_good.Statement.{sta
 use Rattle.submission_signatures.proofs.votes.votes_good.Tie as tie
 
 abbrev Inv-loop : tie.InvT-loop
-Inv-loop roster s size leaders from left₀ at₀ left at =
-    (certificatesEnd 4 size s left at ≤ length s) × (quorateAll (replicas roster) (certificates 4 size s left at) ≡ true)
-    × (every (genuine (formOf roster) roster) (flatMap (ballots size) (certificates 4 size s left at))
-    ≡ every (genuine (formOf roster) roster) (flatMap (ballots size) (certificates 4 size s leaders from)))
+Inv-loop roster s w size leaders from left₀ at₀ left at =
+    (certificatesEnd w size s left at ≤ length s) × (quorateAll (replicas roster) (certificates w size s left at) ≡ true)
+    × (every (genuine (withTerms w (cluster roster)) roster) (flatMap (ballots size) (certificates w size s left at))
+    ≡ every (genuine (withTerms w (cluster roster)) roster) (flatMap (ballots size) (certificates w size s leaders from)))
 
 abbrev μ-loop : tie.MeasureT-loop
-μ-loop roster s size leaders from left₀ at₀ left at = left
+μ-loop roster s w size leaders from left₀ at₀ left at = left
 
 loop-holds : tie.Need-loop-holds Inv-loop μ-loop
-loop-holds c = let start = c .before .before in (start .pre .1, start .pre .2, refl)
+loop-holds c = let start = c .before .before in (start .pre .2, start .pre .3, refl)
 
 votes-good-at-requires : tie.Need-votes-good-at-requires Inv-loop μ-loop
 votes-good-at-requires c κs =
@@ -34,37 +35,39 @@ votes-good-at-requires c κs =
     let a = start .args in
     let l = c .before .loop in (
       start .pre .0,
-      first-signers (a .size) (a .s .now) (l .left) (l .at) (omega arith) (replicas (a .roster .now)) (l .inv .1),
-      first-inside 4 (a .size) (a .s .now) (l .left) (l .at) (omega arith) (l .inv .0),
+      start .pre .1,
+      first-signers (a .width) (a .size) (a .s .now) (l .left) (l .at) (omega arith) (replicas (a .roster .now)) (l .inv .1),
+      first-inside (a .width) (a .size) (a .s .now) (l .left) (l .at) (omega arith) (l .inv .0),
     )
 
 returns : tie.Need-returns Inv-loop μ-loop
 returns c =
     let a = c .before .before .before .before .before .before .args in
     let l = c .before .before .before .loop in
-    votes-fail (a .size) (a .s .now) (l .left) (l .at) (omega arith) _ (l .inv .2) (c .before .votes-good-at .ensures) (c .if1 .taken)
+    votes-fail (a .width) (a .size) (a .s .now) (l .left) (l .at) (omega arith) _ (l .inv .2) (c .before .votes-good-at .ensures) (c .if1 .taken)
 
 certificate-end-requires : tie.Need-certificate-end-requires Inv-loop μ-loop
 certificate-end-requires c κs =
-    let a = c .before .before .before .before .before .before .args in
+    let start = c .before .before .before .before .before .before in
+    let a = start .args in
     let l = c .before .before .before .loop in
-    first-inside 4 (a .size) (a .s .now) (l .left) (l .at) (omega arith) (l .inv .0)
+    (start .pre .1, first-inside (a .width) (a .size) (a .s .now) (l .left) (l .at) (omega arith) (l .inv .0))
 
 loop-again : tie.Need-loop-again Inv-loop μ-loop
 loop-again c =
     let a = c .before .before .before .before .before .before .before .args in
     let l = c .before .before .before .before .loop in
     rw (c .certificate-end .ensures) (
-      rest-inside 4 (a .size) (a .s .now) (l .left) (l .at) (omega arith) (l .inv .0),
-      rest-quorums (a .size) (a .s .now) (l .left) (l .at) (omega arith) (replicas (a .roster .now)) (l .inv .1),
-      votes-next (a .size) (a .s .now) (l .left) (l .at) (omega arith) _ (l .inv .2) (c .before .before .votes-good-at .ensures) (c .before .if1 .left),
+      rest-inside (a .width) (a .size) (a .s .now) (l .left) (l .at) (omega arith) (l .inv .0),
+      rest-quorums (a .width) (a .size) (a .s .now) (l .left) (l .at) (omega arith) (replicas (a .roster .now)) (l .inv .1),
+      votes-next (a .width) (a .size) (a .s .now) (l .left) (l .at) (omega arith) _ (l .inv .2) (c .before .before .votes-good-at .ensures) (c .before .if1 .left),
     )
 
 returns-2 : tie.Need-returns-2 Inv-loop μ-loop
 returns-2 c =
     let a = c .before .before .before .before .args in
     let l = c .before .loop in
-    votes-done (a .size) (a .s .now) (l .left) (l .at) _ (l .inv .2) (omega arith)
+    votes-done (a .width) (a .size) (a .s .now) (l .left) (l .at) _ (l .inv .2) (omega arith)
 
 pub votes-good-spec : {M : Type 1} → statement M
 votes-good-spec =
