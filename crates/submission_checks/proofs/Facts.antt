@@ -1,10 +1,10 @@
 -- What the functions say is what the checks ask, of the trailer's counts and places; and the checks one after the other.
 -- Assumes nothing.
 use mathlib.Core.Path.{_≡_, sym, _∙_}
-use mathlib.Core.Bool.{Bool, true}
+use mathlib.Core.Bool.{Bool, true, false, not}
 use mathlib.Core.List.{List}
 use Prim.Native.Nat.{ℕ, _*_, _≤_}
-use borrow.Author.Tests.{leb-true}
+use borrow.Author.Tests.{leb-true, not-true, not-false}
 use lib.Dec.{eqb}
 use lib.ListN.{length}
 use Rattle.refusal.specs.Checks.{every, check, refusal}
@@ -21,6 +21,15 @@ use Rattle.submission.specs.Validate.{sized, versioned, named, counted, ordered
 use Rattle.submission.proofs.Accepted.{length-certificates, length-stamps}
 use Rattle.submission_checks.specs.Checks.{leaderChecks, logChecks, partChecks}
 
+-- ---- a test that the code has asked
+
+module _ {r b : Bool} (e : r ≡ b) where
+  pub met : not r ≡ false → b ≡ true
+  met h = sym e ∙ not-false r h
+
+  pub unmet : not r ≡ true → b ≡ false
+  unmet h = sym e ∙ not-true r h
+
 -- ---- what the checks ask
 
 module _ (roster : List ℕ) (w S : ℕ) (s : List ℕ) where
@@ -29,7 +38,8 @@ module _ (roster : List ℕ) (w S : ℕ) (s : List ℕ) where
       → r ≡ every (leading (withTerms w (cluster roster)) (replicas roster)) (leads (view w S s))
   unfolding leads view leadersFrom
   asked-leading en eH eL ef h =
-      rw (en, eH, eL, ef) at (h (cluster roster) (stampsAt S s (leaderCount s) (stampsFrom w S s)) (length-stamps w S s (leaderCount s) (stampsFrom w S s) ∙ sym eL))
+      let stamps = stampsAt S s (leaderCount s) (stampsFrom w S s) in
+      rw (en, eH, eL, ef) at (h (cluster roster) stamps (length-stamps w S s (leaderCount s) (stampsFrom w S s) ∙ sym eL))
 
 module _ (w S : ℕ) (s : List ℕ) where
   pub asked-ordered : {H : ℕ} {r : Bool} → H ≡ recordCount s → r ≡ rising 1 (recordsOf w H s) → r ≡ ordered (view w S s)

@@ -1,11 +1,11 @@
 -- The terms in order, then their number, then the leaders.
 -- Assumes nothing.
 use mathlib.Core.Path.{sym, _∙_}
-use borrow.Author.Tests.{not-true, not-false, eq-eqb, ne-eqb}
+use borrow.Author.Tests.{eq-eqb, ne-eqb}
 use Rattle.refusal.proofs.Laws.{passed, refused}
 use Rattle.submission_checks.specs.Checks.{logChecks}
 use Rattle.submission_signatures.proofs.Facts.{records-in}
-use Rattle.submission_checks.proofs.Facts.{asked-ordered, asked-count}
+use Rattle.submission_checks.proofs.Facts.{met, unmet, asked-ordered, asked-count}
 use Rattle.submission_checks.proofs.log_number.Statement.{statement}
 use Rattle.submission_checks.proofs.log_number.Tie as tie
 
@@ -18,8 +18,8 @@ returns : tie.Need-returns
 unfolding logChecks
 returns c =
     let a = c .before .before .before .before .before .args in
-    let rising = asked-ordered (a .width) (a .size) (a .s .now) (c .before .before .record-count .ensures .0) (c .before .terms-in-order .ensures) in
-    sym (refused 11 _ _ (sym rising ∙ not-true _ (c .if1 .taken)))
+    let order = asked-ordered (a .width) (a .size) (a .s .now) (c .before .before .record-count .ensures .0) (c .before .terms-in-order .ensures) in
+    sym (refused 11 _ _ (unmet order (c .if1 .taken)))
 
 run-count-requires : tie.Need-run-count-requires
 run-count-requires c κs =
@@ -29,25 +29,32 @@ run-count-requires c κs =
 returns-2 : tie.Need-returns-2
 unfolding logChecks
 returns-2 c =
-    let a = c .before .before .before .before .before .before .before .before .args in
-    let rising = asked-ordered (a .width) (a .size) (a .s .now) (c .before .before .before .before .before .record-count .ensures .0) (c .before .before .before .before .terms-in-order .ensures) in
-    let count = asked-count (a .width) (a .size) (a .s .now) (c .before .before .before .before .before .record-count .ensures .0) (c .before .before .leader-count .ensures .0) (c .before .run-count .ensures) in
-    sym (passed 11 _ _ (sym rising ∙ not-false _ (c .before .before .before .if1 .left)) ∙ refused 12 _ _ (count ∙ ne-eqb _ _ (c .if2 .taken)))
+    let rising = c .before .before .before in
+    let records = rising .before .before .record-count .ensures .0 in
+    let a = rising .before .before .before .before .before .args in
+    let order = asked-ordered (a .width) (a .size) (a .s .now) records (rising .before .terms-in-order .ensures) in
+    let count = asked-count (a .width) (a .size) (a .s .now) records (c .before .before .leader-count .ensures .0) (c .before .run-count .ensures) in
+    sym (passed 11 _ _ (met order (rising .if1 .left)) ∙ refused 12 _ _ (count ∙ ne-eqb _ _ (c .if2 .taken)))
 
 leader-number-requires : tie.Need-leader-number-requires
 leader-number-requires c κs =
-    let a = c .before .before .before .before .before .before .before .before .args in
-    let count = asked-count (a .width) (a .size) (a .s .now) (c .before .before .before .before .before .record-count .ensures .0) (c .before .before .leader-count .ensures .0) (c .before .run-count .ensures) in
-    record { laid = c .before .before .before .before .before .before .before .before .pre; count = count ∙ eq-eqb _ _ (c .if2 .left) }
+    let rising = c .before .before .before in
+    let records = rising .before .before .record-count .ensures .0 in
+    let start = rising .before .before .before .before .before in
+    let a = start .args in
+    let count = asked-count (a .width) (a .size) (a .s .now) records (c .before .before .leader-count .ensures .0) (c .before .run-count .ensures) in
+    record { laid = start .pre; count = count ∙ eq-eqb _ _ (c .if2 .left) }
 
 returns-3 : tie.Need-returns-3
 unfolding logChecks
 returns-3 c =
-    let a = c .before .before .before .before .before .before .before .before .before .args in
-    let rising = asked-ordered (a .width) (a .size) (a .s .now) (c .before .before .before .before .before .before .record-count .ensures .0) (c .before .before .before .before .before .terms-in-order .ensures) in
-    let count = asked-count (a .width) (a .size) (a .s .now) (c .before .before .before .before .before .before .record-count .ensures .0) (c .before .before .before .leader-count .ensures .0) (c .before .before .run-count .ensures) in
-    c .leader-number .ensures
-    ∙ sym (passed 11 _ _ (sym rising ∙ not-false _ (c .before .before .before .before .if1 .left)) ∙ passed 12 _ _ (count ∙ eq-eqb _ _ (c .before .if2 .left)))
+    let counted = c .before in
+    let rising = counted .before .before .before in
+    let records = rising .before .before .record-count .ensures .0 in
+    let a = rising .before .before .before .before .before .args in
+    let order = asked-ordered (a .width) (a .size) (a .s .now) records (rising .before .terms-in-order .ensures) in
+    let count = asked-count (a .width) (a .size) (a .s .now) records (counted .before .before .leader-count .ensures .0) (counted .before .run-count .ensures) in
+    c .leader-number .ensures ∙ sym (passed 11 _ _ (met order (rising .if1 .left)) ∙ passed 12 _ _ (count ∙ eq-eqb _ _ (counted .if2 .left)))
 
 pub log-number-spec : {M : Type 1} → statement M
 log-number-spec =

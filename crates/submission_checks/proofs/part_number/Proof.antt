@@ -2,46 +2,49 @@
 -- Assumes nothing.
 use mathlib.Core.Path.{sym, _∙_}
 use native.Mathlib.Omega.{arith}
-use borrow.Author.Tests.{not-true, not-false}
 use Rattle.refusal.proofs.Laws.{passed, refused}
 use Rattle.roster.proofs.Accepted.{sizes}
 use Rattle.submission_checks.specs.Checks.{partChecks}
+use Rattle.submission_checks.proofs.Facts.{met, unmet}
 use Rattle.submission_checks.proofs.part_number.Statement.{statement}
 use Rattle.submission_checks.proofs.part_number.Tie as tie
 
 returns : tie.Need-returns
 unfolding partChecks
-returns c = sym (refused 9 _ _ (sym (c .before .parts-laid-out .ensures) ∙ not-true _ (c .if1 .taken)))
+returns c = sym (refused 9 _ _ (unmet (c .before .parts-laid-out .ensures) (c .if1 .taken)))
 
 all-signers-quorate-requires : tie.Need-all-signers-quorate-requires
 all-signers-quorate-requires c κs =
     let p = c .before .before .before .before .before .pre in
     let z = sizes _ (p .0) in
-    rw (c .replicas .ensures .0) (omega arith, z .high, p .1, sym (c .before .before .parts-laid-out .ensures) ∙ not-false _ (c .before .if1 .left))
+    rw (c .replicas .ensures .0) (omega arith, z .high, p .1, met (c .before .before .parts-laid-out .ensures) (c .before .if1 .left))
 
 returns-2 : tie.Need-returns-2
 unfolding partChecks
 returns-2 c =
+    let laid = c .before .before .before in
     let asked = rw (c .before .before .replicas .ensures .0) at (c .before .all-signers-quorate .ensures) in
-    sym (passed 9 _ _ (sym (c .before .before .before .before .parts-laid-out .ensures) ∙ not-false _ (c .before .before .before .if1 .left)) ∙ refused 10 _ _ (sym asked ∙ not-true _ (c .if2 .taken)))
+    sym (passed 9 _ _ (met (laid .before .parts-laid-out .ensures) (laid .if1 .left)) ∙ refused 10 _ _ (unmet asked (c .if2 .taken)))
 
 log-number-requires : tie.Need-log-number-requires
 log-number-requires c κs =
-    let p = c .before .before .before .before .before .before .before .pre in
+    let laid = c .before .before .before in
+    let p = laid .before .before .before .before .pre in
     let asked = rw (c .before .before .replicas .ensures .0) at (c .before .all-signers-quorate .ensures) in
     record {
       fine = p .0;
       bounds = p .1;
-      layout = sym (c .before .before .before .before .parts-laid-out .ensures) ∙ not-false _ (c .before .before .before .if1 .left);
-      quorums = sym asked ∙ not-false _ (c .if2 .left);
+      layout = met (laid .before .parts-laid-out .ensures) (laid .if1 .left);
+      quorums = met asked (c .if2 .left);
     }
 
 returns-3 : tie.Need-returns-3
 unfolding partChecks
 returns-3 c =
+    let laid = c .before .before .before .before in
     let asked = rw (c .before .before .before .replicas .ensures .0) at (c .before .before .all-signers-quorate .ensures) in
     c .log-number .ensures
-    ∙ sym (passed 9 _ _ (sym (c .before .before .before .before .before .parts-laid-out .ensures) ∙ not-false _ (c .before .before .before .before .if1 .left)) ∙ passed 10 _ _ (sym asked ∙ not-false _ (c .before .if2 .left)))
+    ∙ sym (passed 9 _ _ (met (laid .before .parts-laid-out .ensures) (laid .if1 .left)) ∙ passed 10 _ _ (met asked (c .before .if2 .left)))
 
 pub part-number-spec : {M : Type 1} → statement M
 part-number-spec =

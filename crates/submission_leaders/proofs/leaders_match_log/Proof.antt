@@ -56,12 +56,19 @@ leading-requires c κs =
     let a = start .args in
     let s = a .s .now in
     let inside = first-inside (a .width) (a .size) s (l .left) (l .place) (omega (arith, c .before .loop-test .taken)) (l .inv .3) in
-    (start .pre .0, le-trans (certificate-head (a .width) (a .size) s (l .place)) inside, fewer-inside (a .width) _ _ (l .inv .1) (start .pre .2), fewer-inside (a .width) _ _ (c .next-run .ensures .0 .1) (start .pre .2), l .inv .4)
+    let ends = c .next-run .ensures .0 in (
+      start .pre .0,
+      le-trans (certificate-head (a .width) (a .size) s (l .place)) inside,
+      fewer-inside (a .width) _ _ (l .inv .1) (start .pre .2),
+      fewer-inside (a .width) _ _ (ends .1) (start .pre .2),
+      l .inv .4,
+    )
 
 returns : tie.Need-returns Inv-loop μ-loop
 returns c name stamps e =
-    let l = c .before .before .before .before .loop in
-    let a = c .before .before .before .before .before .before .before .args in
+    let looped = c .before .before .before .before in
+    let l = looped .loop in
+    let a = looped .before .before .before .args in
     lead-fails (a .width) (a .size) (a .s .now) (leading (withTerms (a .width) name) (a .n)) (l .left) (l .place) (runsLeft (a .width) (a .records) (l .i) (a .s .now)) (a .leaders) stamps
     (l .inv .5 name stamps e) (omega (arith, c .before .before .before .loop-test .taken)) (l .inv .0) e _ _ (c .before .before .next-run .ensures .1 .1)
     (c .before .leading .ensures name) (c .if1 .taken)
@@ -82,8 +89,9 @@ loop-less c = omega (arith, c .before .before .before .before .before .loop-test
 
 loop-again : tie.Need-loop-again Inv-loop μ-loop
 loop-again c =
-    let l = c .before .before .before .before .before .before .loop in
-    let a = c .before .before .before .before .before .before .before .before .before .args in
+    let looped = c .before .before .before .before .before .before in
+    let l = looped .loop in
+    let a = looped .before .before .before .args in
     let s = a .s .now in
     let more : 0 < l .left = omega (arith, c .before .before .before .before .before .loop-test .taken) in
     let walked = c .before .before .before .before .next-run .ensures in

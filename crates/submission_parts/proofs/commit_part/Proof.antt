@@ -24,25 +24,28 @@ sub-at c =
 
 returns-2 : tie.Need-returns-2
 returns-2 c =
-    let a = c .before .before .before .before .before .before .before .args in
-    let end = c .before .before .before .trailer-at .result in
-    let back = c .before .before .before .before .before .distance .result in
-    let laid = c .before .before .before .before .before .before .before .pre .1 in
-    let stands = standing (a .width) (a .size) (a .s .now) laid in
-    let place : end - back ≡ commitFrom (a .width) (a .size) (a .s .now) = omega arith in
-    let beyond = no-commit-passes (a .size) (a .s .now) (end - back) end (sym (c .before .before .read-commit .ensures .0) ∙ c .enum-told .given .1) in
-    let inside = commit-inside (a .width) (a .size) (a .s .now) laid (λ e. c .before .before .before .before .if1 .left (omega arith)) in
+    let end = c .before .before .before in
+    let back = end .before .before in
+    let start = back .before .before in
+    let a = start .args in
+    let stands = standing (a .width) (a .size) (a .s .now) (start .pre .1) in
+    let at = end .trailer-at .result - back .distance .result in
+    let place : at ≡ commitFrom (a .width) (a .size) (a .s .now) = omega arith in
+    let beyond = no-commit-passes (a .size) (a .s .now) at (end .trailer-at .result) (sym (c .before .before .read-commit .ensures .0) ∙ c .enum-told .given .1) in
+    let inside = commit-inside (a .width) (a .size) (a .s .now) (start .pre .1) (λ e. end .before .if1 .left (omega arith)) in
     absurd (omega (arith, rw place at beyond))
 
 returns-3 : tie.Need-returns-3
 returns-3 c =
-    let a = c .before .before .before .before .before .before .before .before .args in
-    let end = c .before .before .before .before .trailer-at .result in
-    let back = c .before .before .before .before .before .before .distance .result in
-    let stands = standing (a .width) (a .size) (a .s .now) (c .before .before .before .before .before .before .before .before .pre .1) in
-    let place : end - back ≡ commitFrom (a .width) (a .size) (a .s .now) = omega arith in
-    let says = commit-says (a .size) (a .s .now) (end - back) end (sym (c .before .before .before .read-commit .ensures .0) ∙ c .before .numbers .given .1) in
-    rw (says .0, place) (found (a .width) (a .size) (a .s .now) (λ e. c .before .before .before .before .before .if1 .left (omega arith)))
+    let end = c .before .before .before .before in
+    let back = end .before .before in
+    let start = back .before .before in
+    let a = start .args in
+    let stands = standing (a .width) (a .size) (a .s .now) (start .pre .1) in
+    let at = end .trailer-at .result - back .distance .result in
+    let place : at ≡ commitFrom (a .width) (a .size) (a .s .now) = omega arith in
+    let says = commit-says (a .size) (a .s .now) at (end .trailer-at .result) (sym (c .before .before .before .read-commit .ensures .0) ∙ c .before .numbers .given .1) in
+    rw (says .0, place) (found (a .width) (a .size) (a .s .now) (λ e. end .before .if1 .left (omega arith)))
 
 pub commit-part-spec : {M : Type 1} → statement M
 commit-part-spec =

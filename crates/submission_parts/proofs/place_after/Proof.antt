@@ -44,8 +44,9 @@ loop-less c = omega arith
 
 loop-again : tie.Need-loop-again Inv-loop μ-loop
 loop-again c =
-    let a = c .before .before .before .before .before .before .before .args in
-    let l = c .before .before .before .before .before .loop in
+    let looped = c .before .before .before .before .before in
+    let a = looped .before .before .args in
+    let l = looped .loop in
     next (a .width) (a .size) (a .s .now) (a .count) (a .from) (a .end) (l .left) (l .at) (l .inv .1) (omega arith)
     (sym (c .before .before .before .read .ensures .0) ∙ c .before .next .given .1)
 

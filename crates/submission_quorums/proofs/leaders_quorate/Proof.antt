@@ -44,14 +44,19 @@ returns c =
     (sym (c .before .before .read .ensures .0) ∙ c .enum-told .given .1)
 
 mask-quorate-requires : tie.Need-mask-quorate-requires Inv-loop μ-loop
-mask-quorate-requires c κs = (c .before .before .before .before .before .before .before .pre .0, c .before .before .before .before .before .before .before .pre .1)
+mask-quorate-requires c κs =
+    let read = c .before .before in
+    let p = read .before .before .before .before .before .pre in
+    (p .0, p .1)
 
 returns-2 : tie.Need-returns-2 Inv-loop μ-loop
 returns-2 c =
-    let a = c .before .before .before .before .before .before .before .before .before .args in
-    let l = c .before .before .before .before .before .before .before .loop in
+    let read = c .before .before .before .before .before in
+    let looped = read .before .before in
+    let a = looped .before .before .args in
+    let l = looped .loop in
     too-few (a .width) (a .size) (a .s .now) (a .n) (l .left) (l .at) (a .end) (l .inv .1) (omega arith) (l .inv .0)
-    (sym (c .before .before .before .before .before .read .ensures .0) ∙ c .before .before .before .c .given .1)
+    (sym (read .read .ensures .0) ∙ c .before .before .before .c .given .1)
     (c .before .mask-quorate .ensures)
     (c .if1 .taken)
 
@@ -63,10 +68,12 @@ loop-less c = omega arith
 
 loop-again : tie.Need-loop-again Inv-loop μ-loop
 loop-again c =
-    let a = c .before .before .before .before .before .before .before .before .before .args in
-    let l = c .before .before .before .before .before .before .before .loop in
+    let read = c .before .before .before .before .before in
+    let looped = read .before .before in
+    let a = looped .before .before .args in
+    let l = looped .loop in
     enough (a .width) (a .size) (a .s .now) (a .n) (l .left) (l .at) (a .end) (l .inv .1) (omega arith) (l .inv .0)
-    (sym (c .before .before .before .before .before .read .ensures .0) ∙ c .before .before .before .c .given .1)
+    (sym (read .read .ensures .0) ∙ c .before .before .before .c .given .1)
     (c .before .mask-quorate .ensures)
     (c .if1 .left)
 

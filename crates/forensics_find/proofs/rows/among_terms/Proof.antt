@@ -35,16 +35,18 @@ loop-holds c =
 
 certificate-end-requires : tie.Need-certificate-end-requires Inv-loop μ-loop
 certificate-end-requires c κs =
-    let start = c .before .before .before .before .before .before .before in
+    let looped = c .before in
+    let start = looped .before .before .before .before .before .before in
     let a = start .args in
-    let l = c .before .loop in
+    let l = looped .loop in
     (start .pre .1 .width, end-inside (a .width) (a .size) (a .a .now) _ _ (l .left) (l .at) (l .inv) (omega arith))
 
 tenure-at-requires : tie.Need-tenure-at-requires Inv-loop μ-loop
 tenure-at-requires c κs =
-    let start = c .before .before .before .before .before .before .before .before in
+    let looped = c .before .before in
+    let start = looped .before .before .before .before .before .before in
     let a = start .args in
-    let l = c .before .before .loop in
+    let l = looped .loop in
     let p = start .pre .1 in (
       p .long,
       p .short,
@@ -60,15 +62,17 @@ against-requires c κs =
 
 loop-again : tie.Need-loop-again Inv-loop μ-loop
 loop-again c =
-    let a = c .before .before .before .before .before .before .before .before .before .before .before .args in
-    let l = c .before .before .before .before .before .loop in
+    let looped = c .before .before .before .before .before in
+    let a = looped .before .before .before .before .before .before .args in
+    let l = looped .loop in
     rows-next (a .width) (a .size) (a .a .now) _ _ (l .left) (l .at) (l .inv) (omega (arith, c .before .before .before .before .loop-test .taken))
     (c .before .before .before .certificate-end .ensures) (c .before .before .tenure-at .ensures) (c .before .against .ensures) (c .lower-row .ensures)
 
 returns : tie.Need-returns Inv-loop μ-loop
 returns c =
-    let a = c .before .before .before .before .before .before .before .args in
-    let l = c .before .loop in
+    let looped = c .before in
+    let a = looped .before .before .before .before .before .before .args in
+    let l = looped .loop in
     rows-done (a .width) (a .size) (a .a .now) _ _ (l .left) (l .at) (l .inv) (omega arith)
 
 pub among-terms-spec : {M : Type 1} → statement M

@@ -11,51 +11,59 @@ use Rattle.submission_parts.proofs.layout.leaders_stand.Tie as tie
 
 returns : tie.Need-returns
 returns c =
-    let a = c .before .before .before .before .before .before .args in
-    let lead = c .before .before .before .leader-count .ensures .0 in
-    let e = sym (c .before .before .place-after .ensures .0) ∙ c .enum-told .given .1 in
-    leaders-pass (a .width) (a .size) (a .s .now) (a .from) (rw (lead, c .before .before .before .before .trailer-at .ensures) at (beyond-passes (a .width) (a .size) (a .s .now) _ (a .from) _ e))
+    let read = c .before .before in
+    let a = read .before .before .before .before .args in
+    let e = sym (read .place-after .ensures .0) ∙ c .enum-told .given .1 in
+    let beyond = beyond-passes (a .width) (a .size) (a .s .now) _ (a .from) _ e in
+    leaders-pass (a .width) (a .size) (a .s .now) (a .from) (rw (read .before .leader-count .ensures .0, read .before .before .trailer-at .ensures) at beyond)
 
 add-if1 : tie.Need-add-if1
 add-if1 c =
-    let a = c .before .before .before .before .before .before .before .before .args in
-    let says = place-says (a .width) (a .size) (a .s .now) _ (a .from) _ _ (sym (c .before .before .before .before .place-after .ensures .0) ∙ c .before .before .stamps .given .1) in
+    let read = c .before .before .before .before in
+    let a = read .before .before .before .before .args in
+    let says = place-says (a .width) (a .size) (a .s .now) _ (a .from) _ _ (sym (read .place-after .ensures .0) ∙ c .before .before .stamps .given .1) in
     omega arith
 
 returns-2 : tie.Need-returns-2
 returns-2 c =
-    let a = c .before .before .before .before .before .before .before .before .before .args in
-    let says = place-says (a .width) (a .size) (a .s .now) _ (a .from) _ _ (sym (c .before .before .before .before .before .place-after .ensures .0) ∙ c .before .before .before .stamps .given .1) in
-    let lead = c .before .before .before .before .before .before .leader-count .ensures .0 in
-    let here = rw lead at (says .0) in
+    let read = c .before .before .before .before .before in
+    let a = read .before .before .before .before .args in
+    let says = place-says (a .width) (a .size) (a .s .now) _ (a .from) _ _ (sym (read .place-after .ensures .0) ∙ c .before .before .before .stamps .given .1) in
+    let here = rw (read .before .leader-count .ensures .0) at (says .0) in
     stamps-elsewhere (a .width) (a .size) (a .s .now) (a .from) (λ e. c .if1 .taken (omega arith))
 
 mul-commit-stands : tie.Need-mul-commit-stands
 mul-commit-stands c =
-    let a = c .before .before .before .before .before .before .before .before .before .args in
-    let few = stamps-le (c .before .before .before .before .before .before .leader-count .result) (a .size) (omega arith) (c .before .before .before .before .before .before .before .before .before .pre .0 .signature) in
+    let read = c .before .before .before .before .before in
+    let start = read .before .before .before .before in
+    let few = stamps-le (read .before .leader-count .result) (start .args .size) (omega arith) (start .pre .0 .signature) in
     omega arith
 
 add-commit-stands : tie.Need-add-commit-stands
 add-commit-stands c =
-    let a = c .before .before .before .before .before .before .before .before .before .args in
-    let says = place-says (a .width) (a .size) (a .s .now) _ (a .from) _ _ (sym (c .before .before .before .before .before .place-after .ensures .0) ∙ c .before .before .before .stamps .given .1) in
-    let few = stamps-le (c .before .before .before .before .before .before .leader-count .result) (a .size) (omega arith) (c .before .before .before .before .before .before .before .before .before .pre .0 .signature) in
+    let read = c .before .before .before .before .before in
+    let start = read .before .before .before .before in
+    let a = start .args in
+    let says = place-says (a .width) (a .size) (a .s .now) _ (a .from) _ _ (sym (read .place-after .ensures .0) ∙ c .before .before .before .stamps .given .1) in
+    let few = stamps-le (read .before .leader-count .result) (a .size) (omega arith) (start .pre .0 .signature) in
     omega arith
 
 commit-stands-requires : tie.Need-commit-stands-requires
 commit-stands-requires c κs =
-    let a = c .before .before .before .before .before .before .before .before .before .args in
-    let says = place-says (a .width) (a .size) (a .s .now) _ (a .from) _ _ (sym (c .before .before .before .before .before .place-after .ensures .0) ∙ c .before .before .before .stamps .given .1) in
-    let few = stamps-le (c .before .before .before .before .before .before .leader-count .result) (a .size) (omega arith) (c .before .before .before .before .before .before .before .before .before .pre .0 .signature) in
-    let p = c .before .before .before .before .before .before .before .before .before .pre in
-    (p .0 .long, p .0 .short, p .0 .signature, omega arith)
+    let read = c .before .before .before .before .before in
+    let start = read .before .before .before .before in
+    let a = start .args in
+    let says = place-says (a .width) (a .size) (a .s .now) _ (a .from) _ _ (sym (read .place-after .ensures .0) ∙ c .before .before .before .stamps .given .1) in
+    let few = stamps-le (read .before .leader-count .result) (a .size) (omega arith) (start .pre .0 .signature) in
+    let p = start .pre .0 in
+    (p .long, p .short, p .signature, omega arith)
 
 returns-3 : tie.Need-returns-3
 returns-3 c =
-    let a = c .before .before .before .before .before .before .before .before .before .before .args in
-    let says = place-says (a .width) (a .size) (a .s .now) _ (a .from) _ _ (sym (c .before .before .before .before .before .before .place-after .ensures .0) ∙ c .before .before .before .before .stamps .given .1) in
-    let lead = c .before .before .before .before .before .before .before .leader-count .ensures .0 in
+    let read = c .before .before .before .before .before .before in
+    let a = read .before .before .before .before .args in
+    let lead = read .before .leader-count .ensures .0 in
+    let says = place-says (a .width) (a .size) (a .s .now) _ (a .from) _ _ (sym (read .place-after .ensures .0) ∙ c .before .before .before .before .stamps .given .1) in
     let here = rw lead at (says .0) in
     stamps-here (a .width) (a .size) (a .s .now) (a .from) (omega arith) (rw (← here, ← lead) (c .commit-stands .ensures))
 

@@ -55,8 +55,9 @@ certificate-end-requires c κs =
 
 loop-again : tie.Need-loop-again Inv-loop μ-loop
 loop-again c =
-    let a = c .before .before .before .before .before .before .before .args in
-    let l = c .before .before .before .before .loop in
+    let looped = c .before .before .before .before in
+    let a = looped .before .before .before .args in
+    let l = looped .loop in
     rw (c .certificate-end .ensures) (
       rest-inside (a .width) (a .size) (a .s .now) (l .left) (l .at) (omega arith) (l .inv .0),
       rest-quorums (a .width) (a .size) (a .s .now) (l .left) (l .at) (omega arith) (replicas (a .roster .now)) (l .inv .1),
