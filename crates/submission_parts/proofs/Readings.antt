@@ -44,7 +44,8 @@ module _ (S : ℕ) (s : List ℕ) where
 -- ---- the end
 
 -- from what the code has read and computed
-module _ (w S at fields mask bytes : ℕ) (s : List ℕ) (e : fields ≡ ballotSize w) (signers : mask ≡ numberAt 2 s (at + fields)) (size : bytes ≡ S * ones mask) where
+module _ (w S at fields mask bytes : ℕ) (s : List ℕ) (e : fields ≡ ballotSize w) (signers : mask ≡ numberAt 2 s (at + fields))
+    (size : bytes ≡ S * ones mask) where
   pub ends-at : at + fields + 2 + bytes ≡ certificateEnd w S s at
   unfolding certificateEnd signersAt
   ends-at = rw (size, signers, e)

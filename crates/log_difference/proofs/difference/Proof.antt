@@ -42,9 +42,10 @@ ends w i count size most e h m = rw e (le-trans (record-inside w i count h) m)
 
 mul-same-part : tie.Need-mul-same-part Inv-loop μ-loop
 mul-same-part c =
-    let start = c .before .before .before .before .before .before in
+    let looped = c .before .before in
+    let start = looped .before .before .before .before in
     let a = start .args in
-    omega (arith, ends (a .width) (c .before .before .loop .i) (a .first) _ _ (c .before .before .before .record-size .ensures .0) (c .before .loop-test .taken) (start .pre .1))
+    omega (arith, ends (a .width) (looped .loop .i) (a .first) _ _ (looped .before .record-size .ensures .0) (c .before .loop-test .taken) (start .pre .1))
 
 same-part-requires : tie.Need-same-part-requires Inv-loop μ-loop
 same-part-requires c κs =

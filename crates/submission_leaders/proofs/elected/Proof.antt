@@ -44,7 +44,8 @@ returns-3 c =
     c .signer .ensures
     ∙ ap (λ (m : ℕ). signer m (read .u16-at .result)) mask
     ∙ ap (signer (signersAt s (a .at + ballotSize w))) who
-    ∙ by-signer (a .n) (signersAt s (a .at + ballotSize w)) _ (rw (← who) (c .before .before .before .before .if1 .left)) (rw (← who) (c .before .before .before .if2 .left))
+    ∙ by-signer (a .n) (signersAt s (a .at + ballotSize w)) _
+    (rw (← who) (c .before .before .before .before .if1 .left)) (rw (← who) (c .before .before .before .if2 .left))
 
 pub elected-spec : {M : Type 1} → statement M
 elected-spec =

@@ -12,7 +12,8 @@ use Rattle.words.proofs.put_number.Statement.{statement}
 use Rattle.words.proofs.put_number.Tie as tie
 
 abbrev Inv-loop : tie.InvT-loop
-Inv-loop out₀ at width x k₀ rest₀ out k rest = (length out ≡ length out₀) × (k ≤ width) × (sets out at (be k rest) ≡ sets out₀ at (be width x))
+Inv-loop out₀ at width x k₀ rest₀ out k rest =
+    (length out ≡ length out₀) × (k ≤ width) × (sets out at (be k rest) ≡ sets out₀ at (be width x))
 
 abbrev μ-loop : tie.MeasureT-loop
 μ-loop out₀ at width x k₀ rest₀ out k rest = k
@@ -25,7 +26,8 @@ loop-again c =
     let l = c .before .loop in
     let a = c .before .before .args in
     let more : l .k ≡ suc (l .k - 1) = omega arith in
-    (simp length-set (l .inv .0), omega arith, byte-step (l .out) (a .at) (l .k - 1) (l .rest) ∙ ap (λ (k : ℕ). sets (l .out) (a .at) (be k (l .rest))) (sym more) ∙ l .inv .2)
+    let put = byte-step (l .out) (a .at) (l .k - 1) (l .rest) ∙ ap (λ (k : ℕ). sets (l .out) (a .at) (be k (l .rest))) (sym more) in
+    (simp length-set (l .inv .0), omega arith, put ∙ l .inv .2)
 
 same-length : tie.Need-same-length Inv-loop μ-loop
 same-length c = c .before .loop .inv .0
@@ -40,4 +42,15 @@ returns c =
 pub put-number-spec : {M : Type 1} → statement M
 put-number-spec =
     tie.close
-    (tie.spec Inv-loop μ-loop loop-holds (λ c. omega arith) (λ c. search needs) (λ c. omega arith) (λ c. omega arith) (λ c. omega arith) loop-again same-length returns)
+    (tie.spec
+    Inv-loop
+    μ-loop
+    loop-holds
+    (λ c. omega arith)
+    (λ c. search needs)
+    (λ c. omega arith)
+    (λ c. omega arith)
+    (λ c. omega arith)
+    loop-again
+    same-length
+    returns)
