@@ -26,7 +26,8 @@ extern "C" {
 
 /*
  * The numbers that a function returns. docs/C.md says what each means and what to do about it, in
- * the words of document 01 (What stops an audit).
+ * the words of document 01 (What stops an audit). docs/NUMBERS.md has the list that these and the
+ * rules below are held to.
  */
 #define HIRELOG_OK 0
 #define HIRELOG_SHORT_REPORT 1
@@ -45,6 +46,12 @@ extern "C" {
 #define HIRELOG_COMMIT_INDEX 14
 #define HIRELOG_BAD_SIGNATURE 15
 #define HIRELOG_LONG_MESSAGE 16
+
+/* The rules, as a report's row has them; hirelog_audit below says what each is. */
+#define HIRELOG_RULE_TWO_VOTES 1
+#define HIRELOG_RULE_TWO_STAMPS 2
+#define HIRELOG_RULE_STALE_VOTE 3
+#define HIRELOG_RULE_STALE_VOTE_EXCHANGED 4
 
 /*
  * SHA-256 (FIPS 180-4) of the first message_len bytes at message.

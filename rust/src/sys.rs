@@ -1,8 +1,15 @@
 //! The functions of libhirelog.a, as include/hirelog.h declares them, for callers with pointers of
-//! their own.
+//! their own; and, by its names, the numbers that are no `Refusal`, and the rules.
 
 pub const OK: u32 = 0;
+pub const SHORT_REPORT: u32 = 1;
 pub const LONG_MESSAGE: u32 = 16;
+
+/// What a `Charge` has as its rule.
+pub const RULE_TWO_VOTES: u8 = 1;
+pub const RULE_TWO_STAMPS: u8 = 2;
+pub const RULE_STALE_VOTE: u8 = 3;
+pub const RULE_STALE_VOTE_EXCHANGED: u8 = 4;
 
 #[link(name = "hirelog", kind = "static")]
 extern "C" {

@@ -1,5 +1,8 @@
 //! Document 01, The report: the fork, the charges by rules 1 to 4, and the report's bytes.
 
+use crate::numbers::{
+    ACCEPTED, SHORT_REPORT, STALE_VOTE, STALE_VOTE_EXCHANGED, TWO_STAMPS, TWO_VOTES,
+};
 use crate::roster::{replicas_of, Roster, MOST};
 use crate::statement::Record;
 use crate::submission::{LeaderCertificate, Run, Submission};
@@ -69,7 +72,7 @@ pub fn audit(
     verdicts: &mut Verdicts,
 ) -> u32 {
     if report.len() < REPORT_SIZE {
-        return 1;
+        return SHORT_REPORT as u32;
     }
     let findings = findings(roster, first, second, verdicts);
     report[..REPORT_SIZE].copy_from_slice(&findings.bytes());
@@ -95,7 +98,7 @@ pub fn findings(roster: &[u8], first: &[u8], second: &[u8], verdicts: &mut Verdi
 
 /// What two accepted submissions show.
 pub fn compare(first: &Submission, second: &Submission) -> Findings {
-    Findings { number: 0, place: 0, fork: fork(first, second), rows: rows(first, second) }
+    Findings { number: ACCEPTED, place: 0, fork: fork(first, second), rows: rows(first, second) }
 }
 
 /// The lowest index, committed in both, whose records differ; 0 if there is none.
@@ -118,8 +121,8 @@ fn rows(first: &Submission, second: &Submission) -> [Option<Charge>; MOST] {
             charges.extend(rule_2((a, run_a, &first.records), (b, run_b, &second.records)));
         }
     }
-    charges.extend(receipt_then_vote(3, first, second));
-    charges.extend(receipt_then_vote(4, second, first));
+    charges.extend(receipt_then_vote(STALE_VOTE, first, second));
+    charges.extend(receipt_then_vote(STALE_VOTE_EXCHANGED, second, first));
 
     let mut rows = [None; MOST];
     for (replica, charge) in charges {
@@ -134,7 +137,7 @@ fn rule_1(a: &LeaderCertificate, b: &LeaderCertificate) -> Vec<(u16, Charge)> {
     if a.vote.term != b.vote.term || a.vote.candidate == b.vote.candidate {
         return Vec::new();
     }
-    let charge = Charge { rule: 1, term: a.vote.term };
+    let charge = Charge { rule: TWO_VOTES, term: a.vote.term };
     both(a.signers, b.signers).into_iter().map(|k| (k, charge)).collect()
 }
 
@@ -148,7 +151,7 @@ fn rule_2((a, run_a, log_a): Leader, (b, run_b, log_b): Leader) -> Option<(u16, 
     }
     let lower = run_a.last.min(run_b.last);
     let differ = (1..=lower).any(|i| log_a[i - 1] != log_b[i - 1]);
-    differ.then_some((a.vote.candidate, Charge { rule: 2, term: a.vote.term }))
+    differ.then_some((a.vote.candidate, Charge { rule: TWO_STAMPS, term: a.vote.term }))
 }
 
 /// Rules 3 and 4: signers of one's commit certificate and of a later vote for a staler log in the

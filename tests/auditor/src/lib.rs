@@ -2,8 +2,8 @@
 //!
 //! Written from document 01 and the RFCs alone:
 //! - `sha256`, `lms`: the two smaller services;
-//! - `roster`, `statement`, `submission`, `audit`, `program`: the audit, its report and the lines
-//!   that the program prints.
+//! - `numbers`, `roster`, `statement`, `submission`, `audit`, `program`: the audit, its numbers,
+//!   its report and the lines that the program prints.
 //!
 //! What makes inputs for both sides:
 //! - `lms::sign`, `build`: keys, rosters and submissions, right or with any field wrong;
@@ -18,6 +18,7 @@ pub mod cases;
 pub mod district;
 pub mod hex;
 pub mod lms;
+pub mod numbers;
 pub mod program;
 pub mod random;
 pub mod roster;

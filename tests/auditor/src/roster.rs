@@ -1,6 +1,7 @@
 //! Document 01, The roster: cluster name, n, and n public keys; numbers 2 to 4.
 
 use crate::bytes::{array_at, u16_at, u32_at};
+use crate::numbers::{DUPLICATE_KEY, KEY_TYPE, ROSTER_SIZE};
 
 /// The name of a cluster.
 pub type Name = [u8; 16];
@@ -27,17 +28,15 @@ pub struct Roster {
 impl Roster {
     /// The roster, or number 2, 3 or 4.
     pub fn read(bytes: &[u8]) -> Result<Roster, u8> {
-        // 2, roster size
         if bytes.len() < HEAD_SIZE {
-            return Err(2);
+            return Err(ROSTER_SIZE);
         }
         let n = u16_at(bytes, 16) as usize;
         if !(3..=MOST).contains(&n) || bytes.len() != HEAD_SIZE + KEY_SIZE * n {
-            return Err(2);
+            return Err(ROSTER_SIZE);
         }
         let keys: Vec<Vec<u8>> =
             (0..n).map(|k| bytes[HEAD_SIZE + KEY_SIZE * k..][..KEY_SIZE].to_vec()).collect();
-        // 3, key type
         let tree_type = u32_at(&keys[0], 0);
         let height = match tree_type {
             5 => 5,
@@ -45,18 +44,17 @@ impl Roster {
             7 => 15,
             8 => 20,
             9 => 25,
-            _ => return Err(3),
+            _ => return Err(KEY_TYPE),
         };
         for key in &keys {
             if u32_at(key, 0) != tree_type || u32_at(key, 4) != 4 {
-                return Err(3);
+                return Err(KEY_TYPE);
             }
         }
-        // 4, duplicate key (document 01's twin key)
         for a in 0..n {
             for b in a + 1..n {
                 if keys[a] == keys[b] {
-                    return Err(4);
+                    return Err(DUPLICATE_KEY);
                 }
             }
         }

@@ -4,6 +4,7 @@
 mod layout;
 
 use crate::bytes::{array_at, u32_at};
+use crate::numbers;
 use crate::roster::{replicas_of, Name, Roster};
 use crate::sha256::Digest;
 use crate::statement::{self, pointers, Position, Record, Vote};
@@ -88,25 +89,21 @@ impl Trailer {
 impl Submission {
     /// The submission, or the lowest of the numbers 5 to 15 that applies.
     pub fn read(roster: &Roster, bytes: &[u8], verdicts: &mut Verdicts) -> Result<Submission, u8> {
-        // 5, size
         if bytes.len() < TRAILER_SIZE || bytes.len() > MOST_BYTES {
-            return Err(5);
+            return Err(numbers::SIZE);
         }
         let trailer = Trailer::read(bytes);
-        // 6, version
         if trailer.version != 1 {
-            return Err(6);
+            return Err(numbers::VERSION);
         }
-        // 7, cluster
         if trailer.name != roster.name {
-            return Err(7);
+            return Err(numbers::CLUSTER);
         }
-        // 8, counts
         if trailer.records > MOST_RECORDS || trailer.leaders > MOST_TERMS {
-            return Err(8);
+            return Err(numbers::COUNTS);
         }
-        // 9, layout
-        let submission = layout::parts(bytes, &trailer, roster.signature_size()).ok_or(9)?;
+        let submission =
+            layout::parts(bytes, &trailer, roster.signature_size()).ok_or(numbers::LAYOUT)?;
         submission.validate(roster, verdicts)?;
         Ok(submission)
     }
@@ -114,26 +111,26 @@ impl Submission {
     /// The lowest of the numbers 10 to 15 that applies, if one does.
     fn validate(&self, roster: &Roster, verdicts: &mut Verdicts) -> Result<(), u8> {
         if !self.signers_are_right(roster) {
-            return Err(10);
+            return Err(numbers::SIGNERS);
         }
         if !self.terms_are_in_order() {
-            return Err(11);
+            return Err(numbers::TERM_ORDER);
         }
         if self.leaders.len() != self.runs().len() {
-            return Err(12);
+            return Err(numbers::TERM_COUNT);
         }
         if !self.leaders_are_right(roster) {
-            return Err(13);
+            return Err(numbers::LEADER);
         }
         if self
             .commit
             .iter()
             .any(|commit| commit.index == 0 || commit.index as usize > self.records.len())
         {
-            return Err(14);
+            return Err(numbers::COMMIT_INDEX);
         }
         if !self.signatures_are_good(roster, verdicts) {
-            return Err(15);
+            return Err(numbers::SIGNATURE);
         }
         Ok(())
     }
