@@ -161,7 +161,7 @@ pub const NUMBERS: &[Number] = &[
 mod tests {
     use super::*;
 
-    /// Each number from 0 to 16 has a row, at its place, with all its texts; names and words differ.
+    /// Each number from 0 to 16 has a row, at its place, with its texts; names and words differ.
     #[test]
     fn rows() {
         assert_eq!(NUMBERS.len(), 17);

@@ -29,6 +29,10 @@ fn expect(files: &[PathBuf; 3], lines: &str, status: i32) -> Run {
     assert_eq!((explained.status, &explained.err), (status, &plain.err));
     assert!(explained.out.starts_with(&format!("{lines}\n")), "{explained:?}");
     assert!(explained.out.lines().all(|line| line.chars().count() <= 80 || line.contains('/')));
+    let mut after = explained.out[lines.len()..].lines();
+    let like_a_line =
+        |line: &str| ["refusal", "fork", "board"].iter().any(|word| line.starts_with(word));
+    assert!(!after.any(like_a_line), "{explained:?}");
     let text = explained.unfolded();
     for line in lines.lines() {
         assert!(text.contains(&format!("What \"{line}\" says: ")), "{line}: {text}");

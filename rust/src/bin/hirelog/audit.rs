@@ -26,8 +26,9 @@ document 01's program:
   board K rule R term T  for each board named: the lowest rule that it broke,
                          and the lowest term for that rule
 
-It does not matter which submission is named first, but for P, and for rules 3
-and 4, which are one rule with the submissions exchanged.
+Which submission is named first matters for rules 3 and 4 alone, which are one
+rule with the submissions exchanged; and where both would be refused, for then
+the first is told.
 ",
     statuses: &[
         (Status::NothingFound, "nothing found: both submissions accepted, no board named"),

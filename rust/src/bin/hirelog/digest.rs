@@ -52,8 +52,8 @@ fn run(operands: &[PathBuf]) -> Result<Answer, Failure> {
     })
 }
 
-/// The line of sha256sum: a name with a backslash or a line end is escaped, and the line then begins
-/// with a backslash.
+/// The line of sha256sum: a name with a backslash or a line end is escaped, and the line then
+/// begins with a backslash.
 fn line(digest: &str, path: &Path) -> Vec<u8> {
     let mut name = Vec::new();
     for &byte in path.as_os_str().as_bytes() {

@@ -91,7 +91,8 @@ const NOT_A_FOLDER: i32 = 20;
 fn unreadable(path: &Path, error: &io::Error) -> String {
     match error.kind() {
         ErrorKind::NotFound => format!(
-            "there is no file {path:?}: look at the spelling, and whether its disk or stick is there"
+            "there is no file {path:?}: look at the spelling, and whether its disk or stick is \
+             there"
         ),
         ErrorKind::PermissionDenied => format!(
             "{path:?} may not be read (permission denied): ask its owner, or whoever looks after \
