@@ -2,7 +2,9 @@
 //!
 //! `include/hirelog.h` has each service's rules, and document 01 what they mean.
 
+pub mod numbers;
 mod report;
+pub mod rules;
 pub mod sys;
 
 pub use report::{read_report, Charge, Findings, Place, Refusal, Refused, REPLICAS, REPORT_SIZE};

@@ -1,5 +1,6 @@
 //! The audit's report, taken apart (document 01, What stops an audit, and The report).
 
+use crate::numbers::Number;
 use std::fmt;
 
 /// Bytes of a report.
@@ -58,22 +59,7 @@ impl Refusal {
 
     /// Document 01's word, as its table has it: output quotes the paper.
     pub fn word(self) -> &'static str {
-        match self {
-            Refusal::RosterSize => "roster size",
-            Refusal::KeyType => "key type",
-            Refusal::DuplicateKey => "twin key",
-            Refusal::Size => "size",
-            Refusal::Version => "version",
-            Refusal::Cluster => "cluster",
-            Refusal::Counts => "counts",
-            Refusal::Layout => "layout",
-            Refusal::Signers => "signers",
-            Refusal::TermOrder => "term order",
-            Refusal::TermCount => "term count",
-            Refusal::Leader => "leader",
-            Refusal::CommitIndex => "commit index",
-            Refusal::Signature => "signature",
-        }
+        Number::of(self.number().into()).expect("a row for each refusal").word
     }
 }
 
@@ -180,6 +166,7 @@ mod tests {
                 bytes[..2].copy_from_slice(&[number, byte]);
                 let refused = read_report(&bytes).expect("a report").expect_err("refused");
                 assert_eq!((refused.refusal.number(), refused.place), (number, place));
+                assert!(!refused.refusal.word().is_empty());
             }
         }
         assert_eq!([0, 1, 16, 255].map(Refusal::of), [None; 4]);

@@ -1,0 +1,131 @@
+//! What a command comes to, and how it is printed: as lines, with explanations, or as JSON.
+
+use crate::json;
+
+/// Exit statuses. 64 and 74 are those of sysexits.h.
+#[derive(Clone, Copy, Debug, PartialEq, Eq)]
+pub enum Status {
+    /// Number 0, and no replica named.
+    NothingFound = 0,
+    /// Number 0, and a replica named.
+    Named = 1,
+    /// Any other number.
+    Refused = 2,
+    Usage = 64,
+    /// A file that cannot be read, or an answer that cannot be written.
+    Unreadable = 74,
+}
+
+/// Why a command came to no answer: nothing is printed but these messages.
+#[derive(Debug)]
+pub struct Failure {
+    pub status: Status,
+    pub messages: Vec<String>,
+}
+
+/// What a line means, and what to do about it.
+pub struct Remark {
+    pub line: String,
+    pub meaning: String,
+    pub advice: String,
+}
+
+/// What a command comes to.
+pub struct Answer {
+    pub status: Status,
+    /// What scripts read: whole lines, the first thing printed.
+    pub lines: Vec<u8>,
+    /// The same as members of a JSON object, each value as JSON.
+    pub members: Vec<(&'static str, String)>,
+    pub remarks: Vec<Remark>,
+    /// For a refusal, which file and why.
+    pub refused: Option<String>,
+    /// What may have gone wrong with the files.
+    pub hints: Vec<String>,
+}
+
+/// Columns of an explanation.
+const COLUMNS: usize = 80;
+
+impl Answer {
+    /// The lines, and after them what each means.
+    pub fn text(&self, explain: bool) -> Vec<u8> {
+        let mut text = self.lines.clone();
+        if explain {
+            for remark in &self.remarks {
+                let meaning = format!("What \"{}\" says: {}", remark.line, remark.meaning);
+                let advice = format!("What to do: {}", remark.advice);
+                text.extend(format!("\n{}{}", fold(&meaning), fold(&advice)).into_bytes());
+            }
+            for hint in &self.hints {
+                text.extend(format!("\n{}", fold(&format!("Hint: {hint}."))).into_bytes());
+            }
+        }
+        text
+    }
+
+    /// One object on one line.
+    pub fn json(&self, command: &str, explain: bool) -> Vec<u8> {
+        let mut members = vec![("command", json::string(command))];
+        members.extend(self.members.iter().cloned());
+        members.push(("hints", json::array(self.hints.iter().map(|hint| json::string(hint)))));
+        if explain {
+            members.push(("explanation", json::array(self.remarks.iter().map(Remark::json))));
+        }
+        (json::object(&members) + "\n").into_bytes()
+    }
+
+    /// What goes to stderr.
+    pub fn messages(&self) -> Vec<String> {
+        self.refused.iter().chain(&self.hints).cloned().collect()
+    }
+}
+
+impl Remark {
+    fn json(&self) -> String {
+        json::object(&[
+            ("line", json::string(&self.line)),
+            ("meaning", json::string(&self.meaning)),
+            ("advice", json::string(&self.advice)),
+        ])
+    }
+}
+
+/// The text in lines of at most `COLUMNS` characters (a longer word has its own), all but the first
+/// indented.
+fn fold(text: &str) -> String {
+    let mut folded = String::new();
+    let mut column = 0;
+    for word in text.split(' ') {
+        let width = word.chars().count();
+        if column > 0 && column + 1 + width > COLUMNS {
+            folded += "\n    ";
+            column = 4;
+        } else if column > 0 {
+            folded.push(' ');
+            column += 1;
+        }
+        folded += word;
+        column += width;
+    }
+    folded + "\n"
+}
+
+#[cfg(test)]
+mod tests {
+    use super::*;
+
+    /// Lines are as long as can be, and no word is lost or cut.
+    #[test]
+    fn folding() {
+        assert_eq!(fold("one"), "one\n");
+        let text = ["word"; 100].join(" ") + " " + &"x".repeat(100) + " end";
+        let folded = fold(&text);
+        assert_eq!(folded.split_whitespace().collect::<Vec<_>>().join(" "), text);
+        for line in folded.lines().filter(|line| !line.contains('x')) {
+            assert!(line.len() <= COLUMNS, "{line}");
+        }
+        assert_eq!(folded.lines().next().map(str::len), Some(79));
+        assert_eq!(fold(&["1234"; 17].join(" ")), ["1234"; 16].join(" ") + "\n    1234\n");
+    }
+}

@@ -1,0 +1,139 @@
+//! hirelog check: an LMS signature (RFC 8554) of a message under a key.
+
+use crate::answer::{Answer, Failure, Remark, Status};
+use crate::files::{read_all, Input};
+use crate::formats::{looks_like_roster, KEY_SIZE};
+use crate::usage::{wrong_count, Command};
+use crate::{hints, json};
+use hirelog::numbers::Number;
+use hirelog::{lms_check, sys, Refusal, Verdict, MESSAGE_MAX};
+use std::path::PathBuf;
+
+pub const COMMAND: Command = Command {
+    name: "check",
+    forms: &["KEY MESSAGE SIGNATURE"],
+    purpose: "checks the signature of a message under a board's key",
+    help: "\
+Checks an LMS signature (RFC 8554). KEY has the 56 bytes of a public key (in a
+roster, the key of board k begins after 18 + 56 x (k - 1) bytes), MESSAGE what
+was signed, SIGNATURE the signature. It prints one line:
+
+  good          the signature is good for this key and this message
+  bad           it is not; also where a length or a type is wrong
+  long message  neither: the message has more than 16,777,216 bytes
+",
+    statuses: &[
+        (Status::NothingFound, "good"),
+        (Status::Refused, "bad, or the message is too long (numbers 15 and 16)"),
+    ],
+    run,
+};
+
+/// The files of a check.
+const FILES: [&str; 3] = ["key", "message", "signature"];
+
+/// Checks a signature. A file that is longer than a message may be gets the number of one that is
+/// longer by a byte: 16 for the message, else 15.
+fn run(operands: &[PathBuf]) -> Result<Answer, Failure> {
+    let [key, message, signature] = operands else {
+        return Err(wrong_count(&COMMAND, operands.len()));
+    };
+    let files = read_all([key.clone(), message.clone(), signature.clone()], MESSAGE_MAX)?;
+    let [key, message, signature] = &files;
+    let verdict = lms_check(&key.bytes, &message.bytes, &signature.bytes);
+    let (number, line) = match verdict {
+        Verdict::Good => (sys::OK, "good"),
+        Verdict::Bad => (Refusal::Signature.number().into(), "bad"),
+        Verdict::LongMessage => (sys::LONG_MESSAGE, "long message"),
+    };
+    let row = Number::of(number).expect("a row for each number");
+    let remark = remark(verdict, line, row);
+    Ok(Answer {
+        status: if verdict == Verdict::Good { Status::NothingFound } else { Status::Refused },
+        lines: format!("{line}\n").into_bytes(),
+        members: vec![
+            ("number", number.to_string()),
+            ("word", json::string(row.word)),
+            ("answer", json::string(line)),
+            ("files", json::files(FILES, &files)),
+        ],
+        refused: refused(verdict, &files, row),
+        hints: if verdict == Verdict::Bad { bad_hints(&files) } else { Vec::new() },
+        remarks: vec![remark],
+    })
+}
+
+/// What the line says.
+fn remark(verdict: Verdict, line: &str, row: &Number) -> Remark {
+    let (meaning, advice) = match verdict {
+        Verdict::Good => (
+            "The signature was made with this key for this very message.",
+            "Nothing. Whether the board used a leaf of its key twice is not looked at here.",
+        ),
+        Verdict::Bad => (
+            "The signature was not made with this key for this message, or one of the three was \
+             changed since.",
+            "See that the three files belong together, are whole, and stand in the order key, \
+             message, signature.",
+        ),
+        Verdict::LongMessage => (row.meaning, row.advice),
+    };
+    Remark { line: line.into(), meaning: meaning.into(), advice: advice.into() }
+}
+
+/// Which files do not go together, and why.
+fn refused(
+    verdict: Verdict,
+    [key, message, signature]: &[Input; 3],
+    row: &Number,
+) -> Option<String> {
+    match verdict {
+        Verdict::Good => None,
+        Verdict::Bad => Some(format!(
+            "bad: {} is no good signature of {} under the key {}: number {}, {}",
+            signature.name(),
+            message.name(),
+            key.name(),
+            row.number,
+            row.word
+        )),
+        Verdict::LongMessage => Some(too_long(message, row)),
+    }
+}
+
+/// The message of number 16.
+pub fn too_long(file: &Input, row: &Number) -> String {
+    let named = format!("{} was refused: number {}, {}", file.described(), row.number, row.word);
+    format!("{named}. {}", row.meaning)
+}
+
+/// What may have gone wrong: an empty file, a key that is none, or files in another order.
+fn bad_hints(files: &[Input; 3]) -> Vec<String> {
+    let key = &files[0];
+    let mut hints = hints::empty(files);
+    if looks_like_roster(&key.bytes) {
+        hints.push(format!(
+            "{} looks like a roster: cut the {KEY_SIZE} bytes of the board's key out of it \
+             (hirelog check --help says where they begin)",
+            key.name()
+        ));
+    } else if key.bytes.len() != KEY_SIZE && !key.bytes.is_empty() {
+        hints.push(format!("{} has {}, and a key has {KEY_SIZE}", key.name(), key.size()));
+    }
+    hints.extend(right_order(files));
+    hints
+}
+
+/// The order in which the files are good, if there is one.
+fn right_order(files: &[Input; 3]) -> Option<String> {
+    let orders = [[0, 2, 1], [1, 0, 2], [1, 2, 0], [2, 0, 1], [2, 1, 0]];
+    let mut ordered = orders.into_iter().map(|order| order.map(|place| &files[place]));
+    let good = |[key, message, signature]: &[&Input; 3]| {
+        lms_check(&key.bytes, &message.bytes, &signature.bytes) == Verdict::Good
+    };
+    let [key, message, signature] = ordered.find(good)?.map(Input::name);
+    Some(format!(
+        "the files are in the wrong order: with the key {key}, the message {message} and the \
+         signature {signature} it is good"
+    ))
+}

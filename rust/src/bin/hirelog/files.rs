@@ -1,0 +1,131 @@
+//! Reading the files of a command; what cannot be read is said in words for who has to mend it.
+
+use crate::answer::{Failure, Status};
+use std::fs::File;
+use std::io::{self, ErrorKind, Read};
+use std::path::{Path, PathBuf};
+
+/// A file as it was read. Of a file above the library's limit one byte more than the limit is kept,
+/// which gets the same number as the whole.
+pub struct Input {
+    path: PathBuf,
+    pub bytes: Vec<u8>,
+    limit: usize,
+}
+
+impl Input {
+    /// Reads a file; or says why not, and what to do.
+    fn read(path: PathBuf, limit: usize) -> Result<Input, String> {
+        let told = |error: io::Error| unreadable(&path, &error);
+        if path.is_dir() {
+            return Err(format!(
+                "{path:?} is a folder, and a file belongs here: name a file in it"
+            ));
+        }
+        let mut bytes = Vec::new();
+        let file = File::open(&path).map_err(told)?;
+        file.take(limit as u64 + 1).read_to_end(&mut bytes).map_err(told)?;
+        Ok(Input { path, bytes, limit })
+    }
+
+    pub fn is_long(&self) -> bool {
+        self.bytes.len() > self.limit
+    }
+
+    /// The file's name in quotes, with its line feeds and the like escaped.
+    pub fn name(&self) -> String {
+        format!("{:?}", self.path)
+    }
+
+    pub fn path(&self) -> &Path {
+        &self.path
+    }
+
+    /// Its name, and how many bytes it has.
+    pub fn described(&self) -> String {
+        format!("{} ({})", self.name(), self.size())
+    }
+
+    /// How many bytes it has, in words.
+    pub fn size(&self) -> String {
+        match self.bytes.len() {
+            _ if self.is_long() => format!("more than {} bytes", grouped(self.limit)),
+            1 => "1 byte".into(),
+            size => format!("{} bytes", grouped(size)),
+        }
+    }
+}
+
+/// Reads all files; or says of each that cannot be read why not.
+pub fn read_all<const N: usize>(paths: [PathBuf; N], limit: usize) -> Result<[Input; N], Failure> {
+    let read = paths.map(|path| Input::read(path, limit));
+    let messages: Vec<String> =
+        read.iter().filter_map(|file| file.as_ref().err().cloned()).collect();
+    if !messages.is_empty() {
+        return Err(Failure { status: Status::Unreadable, messages });
+    }
+    Ok(read.map(|file| file.expect("no message")))
+}
+
+/// The files of these names in a folder; or says that it is no folder.
+pub fn in_folder<const N: usize>(folder: &Path, names: [&str; N]) -> Result<[PathBuf; N], Failure> {
+    let message = match folder.metadata() {
+        Ok(found) if found.is_dir() => return Ok(names.map(|name| folder.join(name))),
+        Ok(_) => format!(
+            "{folder:?} is a file, and a folder with the files {} belongs here: name that folder, \
+             or each of its files",
+            names.join(", ")
+        ),
+        Err(error) if error.kind() == ErrorKind::NotFound => format!(
+            "there is no folder {folder:?}: look at the spelling, and whether its disk or stick is \
+             there"
+        ),
+        Err(error) => unreadable(folder, &error),
+    };
+    Err(Failure { status: Status::Unreadable, messages: vec![message] })
+}
+
+/// Linux's error for a name that goes on after a file, as if that were a folder.
+const NOT_A_FOLDER: i32 = 20;
+
+fn unreadable(path: &Path, error: &io::Error) -> String {
+    match error.kind() {
+        ErrorKind::NotFound => format!(
+            "there is no file {path:?}: look at the spelling, and whether its disk or stick is \
+             there"
+        ),
+        ErrorKind::PermissionDenied => format!(
+            "{path:?} may not be read (permission denied): ask its owner, or whoever looks after \
+             this machine, to let you read it"
+        ),
+        _ if error.raw_os_error() == Some(NOT_A_FOLDER) => format!(
+            "there is no file {path:?}: a part of that name is a file, and not a folder; look at \
+             the spelling"
+        ),
+        _ => format!("{path:?} cannot be read ({error}): copy it again from where it came"),
+    }
+}
+
+/// A number with commas, as 2,097,152.
+pub fn grouped(number: usize) -> String {
+    let digits = number.to_string();
+    let mut text = String::new();
+    for (place, digit) in digits.chars().enumerate() {
+        if place > 0 && (digits.len() - place) % 3 == 0 {
+            text.push(',');
+        }
+        text.push(digit);
+    }
+    text
+}
+
+#[cfg(test)]
+mod tests {
+    use super::*;
+
+    #[test]
+    fn numbers_with_commas() {
+        let texts = [0, 999, 1000, 28_672, 2_097_152].map(grouped);
+        assert_eq!(texts, ["0", "999", "1,000", "28,672", "2,097,152"]);
+    }
+}

@@ -1,0 +1,76 @@
+//! hirelog, the command for people: the library's services on files.
+//!
+//! `usage` reads the command line. Each command (`audit`, `check`, `digest`) reads its files and
+//! comes to an `Answer`, which is printed as lines, with explanations, or as JSON. A new command is
+//! a module with a `COMMAND`, and an entry in `COMMANDS`.
+
+mod answer;
+mod audit;
+mod check;
+mod digest;
+mod files;
+mod formats;
+mod hints;
+mod json;
+mod usage;
+
+use answer::{Failure, Status};
+use std::ffi::OsString;
+use std::io::{self, Write};
+use std::process::ExitCode;
+use usage::{Command, Request};
+
+/// The commands, in the order of the help.
+pub const COMMANDS: &[Command] = &[audit::COMMAND, check::COMMAND, digest::COMMAND];
+
+/// What a run leaves: bytes for stdout, messages for stderr, and the exit status.
+struct Outcome {
+    output: Vec<u8>,
+    messages: Vec<String>,
+    status: Status,
+}
+
+fn main() -> ExitCode {
+    let arguments: Vec<OsString> = std::env::args_os().skip(1).collect();
+    let outcome = run(&arguments).unwrap_or_else(|failure| Outcome {
+        output: Vec::new(),
+        messages: failure.messages,
+        status: failure.status,
+    });
+    finish(outcome)
+}
+
+/// Does what the command line asks for.
+fn run(arguments: &[OsString]) -> Result<Outcome, Failure> {
+    let (command, options, operands) = match usage::parse(arguments)? {
+        Request::Help(text) => {
+            let output = text.into_bytes();
+            return Ok(Outcome { output, messages: Vec::new(), status: Status::NothingFound });
+        }
+        Request::Run { command, options, operands } => (command, options, operands),
+    };
+    let answer = (command.run)(&operands)?;
+    let output = if options.json {
+        answer.json(command.name, options.explain)
+    } else {
+        answer.text(options.explain)
+    };
+    Ok(Outcome { output, messages: answer.messages(), status: answer.status })
+}
+
+/// Prints what a run leaves: stdout first, so that its lines stand before the messages.
+fn finish(outcome: Outcome) -> ExitCode {
+    let mut stdout = io::stdout().lock();
+    let printed = stdout.write_all(&outcome.output).and_then(|()| stdout.flush());
+    let mut status = outcome.status;
+    let mut messages = outcome.messages;
+    if let Err(error) = printed {
+        messages.push(format!("the answer cannot be written ({error})"));
+        status = Status::Unreadable;
+    }
+    for message in messages {
+        // Where stderr is closed too, the exit status is all that can be said.
+        let _ = writeln!(io::stderr(), "hirelog: {message}");
+    }
+    ExitCode::from(status as u8)
+}

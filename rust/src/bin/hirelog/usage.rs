@@ -1,0 +1,167 @@
+//! The command line: what it asks for, or what is wrong with it; and the help.
+
+use crate::answer::{Answer, Failure, Status};
+use crate::COMMANDS;
+use std::ffi::OsString;
+use std::path::PathBuf;
+
+/// A command, and what its help says.
+pub struct Command {
+    pub name: &'static str,
+    /// The operands that it takes, in each of its forms.
+    pub forms: &'static [&'static str],
+    /// A line for the list of commands.
+    pub purpose: &'static str,
+    /// What it does and prints.
+    pub help: &'static str,
+    /// What its own exit statuses mean.
+    pub statuses: &'static [(Status, &'static str)],
+    /// Comes to an answer on these operands, as many as there are.
+    pub run: fn(&[PathBuf]) -> Result<Answer, Failure>,
+}
+
+/// How the answer is to be printed.
+#[derive(Clone, Copy, Default)]
+pub struct Options {
+    pub explain: bool,
+    pub json: bool,
+}
+
+/// What a command line asks for.
+pub enum Request {
+    Help(String),
+    Run { command: &'static Command, options: Options, operands: Vec<PathBuf> },
+}
+
+const OPTIONS: &str = "\
+Options:
+  --explain  say after the lines what each means, and what to do about it
+  --json     print one object on one line instead, to which --explain adds
+  --help     print this
+  --         end the options, before a name that begins with -
+";
+
+/// Exit statuses of every command.
+const STATUSES: &[(Status, &str)] = &[
+    (Status::Usage, "wrong usage"),
+    (Status::Unreadable, "a file cannot be read, or the answer cannot be written"),
+];
+const STATUSES_END: &str = "\
+With 2, 64 and 74 a message says which file or argument, and why; with 64 and 74
+nothing else is printed.
+";
+
+/// Reads a command line.
+pub fn parse(arguments: &[OsString]) -> Result<Request, Failure> {
+    let Some((name, rest)) = arguments.split_first() else {
+        return Err(wrong_usage(format!("name a command: {}", names()), "hirelog"));
+    };
+    if is_help(name) {
+        return Ok(Request::Help(help()));
+    }
+    let Some(command) = COMMANDS.iter().find(|command| name == command.name) else {
+        let why = format!("there is no command {name:?}, but {}", names());
+        return Err(wrong_usage(why, "hirelog"));
+    };
+    let (options, operands) = match split(command, rest)? {
+        Some(parts) => parts,
+        None => return Ok(Request::Help(command.help_text())),
+    };
+    if operands.iter().any(|operand| operand.as_os_str().is_empty()) {
+        let why = "a file's name is empty: is a variable of a script not set?".into();
+        return Err(wrong_usage(why, &command.full_name()));
+    }
+    Ok(Request::Run { command, options, operands })
+}
+
+/// Options apart from operands; nothing where help is asked for.
+fn split(
+    command: &Command,
+    arguments: &[OsString],
+) -> Result<Option<(Options, Vec<PathBuf>)>, Failure> {
+    let (mut options, mut operands) = (Options::default(), Vec::new());
+    let mut arguments = arguments.iter();
+    while let Some(argument) = arguments.next() {
+        if is_help(argument) {
+            return Ok(None);
+        } else if argument == "--explain" {
+            options.explain = true;
+        } else if argument == "--json" {
+            options.json = true;
+        } else if argument == "--" {
+            operands.extend(arguments.by_ref().map(PathBuf::from));
+        } else if argument.as_encoded_bytes().starts_with(b"-") {
+            let why = format!("there is no option {argument:?}");
+            return Err(wrong_usage(why, &command.full_name()));
+        } else {
+            operands.push(PathBuf::from(argument));
+        }
+    }
+    Ok(Some((options, operands)))
+}
+
+fn is_help(argument: &OsString) -> bool {
+    argument == "--help" || argument == "-h"
+}
+
+fn names() -> String {
+    COMMANDS.iter().map(|command| command.name).collect::<Vec<_>>().join(", ")
+}
+
+fn wrong_usage(why: String, name: &str) -> Failure {
+    Failure { status: Status::Usage, messages: vec![why, format!("for more: {name} --help")] }
+}
+
+/// The failure of a command that was given another number of operands than it takes.
+pub fn wrong_count(command: &Command, count: usize) -> Failure {
+    let forms = command.forms.join(" or ");
+    let names = if count == 1 { "name was" } else { "names were" };
+    let why = format!("{} takes {forms}, and {count} {names} given", command.full_name());
+    wrong_usage(why, &command.full_name())
+}
+
+/// The help of the whole.
+fn help() -> String {
+    let mut text = String::new();
+    for (place, command) in COMMANDS.iter().enumerate() {
+        text += &command.usage(if place == 0 { "use: " } else { "     " });
+    }
+    text.push('\n');
+    for command in COMMANDS {
+        text += &format!("  {:<7} {}\n", command.name, command.purpose);
+    }
+    text += &format!("\nEach command's --help says what it prints.\n\n{OPTIONS}");
+    let own = [
+        (Status::NothingFound, "nothing found; a good signature; a digest"),
+        (Status::Named, "a board is named"),
+        (Status::Refused, "a roster, submission, signature or long message was refused"),
+    ];
+    text + &status_text(&own)
+}
+
+fn status_text(own: &[(Status, &str)]) -> String {
+    let rows = own.iter().chain(STATUSES);
+    let rows: String =
+        rows.map(|&(status, text)| format!("  {:<3} {text}\n", status as u8)).collect();
+    format!("\nExit status:\n{rows}{STATUSES_END}")
+}
+
+impl Command {
+    fn full_name(&self) -> String {
+        format!("hirelog {}", self.name)
+    }
+
+    /// A line for each form.
+    fn usage(&self, begin: &str) -> String {
+        let line = |(place, form): (usize, &&str)| {
+            let begin = if place == 0 { begin } else { "     " };
+            format!("{begin}{} [--explain] [--json] {form}\n", self.full_name())
+        };
+        self.forms.iter().enumerate().map(line).collect()
+    }
+
+    fn help_text(&self) -> String {
+        let (usage, statuses) = (self.usage("use: "), status_text(self.statuses));
+        format!("{usage}\n{}\n{OPTIONS}{statuses}", self.help)
+    }
+}

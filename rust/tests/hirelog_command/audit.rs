@@ -1,0 +1,213 @@
+//! hirelog audit: its lines, its explanations and its JSON, for each sample and each number.
+
+use crate::json::{self, Value};
+use crate::*;
+use hirelog::numbers::{Number, NUMBERS};
+
+/// The lines that an object says.
+fn lines_of(object: &Value) -> String {
+    let [number, place, fork] = ["number", "place", "fork"].map(|name| object.get(name).number());
+    let mut lines = format!("refusal {number} in {place}\nfork {fork}\n");
+    for named in object.get("named").list() {
+        let [board, rule, term] = ["board", "rule", "term"].map(|name| named.get(name).number());
+        lines += &format!("board {board} rule {rule} term {term}\n");
+    }
+    lines
+}
+
+/// All ways to ask for an audit give these lines and this status, with the number's texts, and say
+/// the same on stderr, which is given.
+fn expect(files: &[PathBuf; 3], lines: &str, status: i32) -> Run {
+    let plain = with_options("audit", &[], files);
+    assert_eq!((plain.out.as_str(), plain.status), (lines, status), "{plain:?}");
+    let object = json_of(files, &plain);
+    assert_eq!(lines_of(&object), lines);
+    let number = Number::of(object.get("number").number() as u32).expect("a row");
+    assert_eq!(object.get("word").text(), number.word);
+
+    let explained = with_options("audit", &["--explain"], files);
+    assert_eq!((explained.status, &explained.err), (status, &plain.err));
+    assert!(explained.out.starts_with(&format!("{lines}\n")), "{explained:?}");
+    assert!(explained.out.lines().all(|line| line.chars().count() <= 80 || line.contains('/')));
+    let mut after = explained.out[lines.len()..].lines();
+    let like_a_line =
+        |line: &str| ["refusal", "fork", "board"].iter().any(|word| line.starts_with(word));
+    assert!(!after.any(like_a_line), "{explained:?}");
+    let text = explained.unfolded();
+    for line in lines.lines() {
+        assert!(text.contains(&format!("What \"{line}\" says: ")), "{line}: {text}");
+    }
+    assert_eq!(text.matches("\nWhat to do: ").count(), lines.lines().count());
+    assert!(text.contains(number.meaning) && text.contains(number.advice), "{text}");
+    for hint in object.get("hints").list() {
+        assert!(text.contains(&format!("Hint: {}.", hint.text())), "{text}");
+        assert!(plain.err.contains(hint.text()), "{plain:?}");
+    }
+    plain
+}
+
+/// The object of an audit; with --explain it has the explanations too, and all else is the same.
+fn json_of(files: &[PathBuf; 3], plain: &Run) -> Value {
+    let [short, long] = [&["--json"][..], &["--json", "--explain"]].map(|options| {
+        let run = with_options("audit", options, files);
+        assert_eq!((run.status, &run.err), (plain.status, &plain.err));
+        json::read(&run.out)
+    });
+    let names = ["command", "number", "word", "place", "fork", "named", "files", "hints"];
+    assert_eq!(short.names(), names);
+    for name in names {
+        assert_eq!(long.get(name), short.get(name));
+    }
+    assert_eq!(short.get("command").text(), "audit");
+    assert_eq!(short.get("files").names(), ["roster", "first", "second"]);
+    for (name, file) in ["roster", "first", "second"].into_iter().zip(files) {
+        assert_eq!(short.get("files").get(name).text(), file.to_string_lossy());
+    }
+    let explanation = long.get("explanation").list();
+    let lines: String =
+        explanation.iter().map(|remark| remark.get("line").text().to_string() + "\n").collect();
+    assert_eq!(lines, plain.out);
+    assert!(explanation.iter().all(|remark| remark.names() == ["line", "meaning", "advice"]));
+    short
+}
+
+/// Each sample gives its lines, by its folder and by its files.
+#[test]
+fn samples() {
+    for name in SAMPLES {
+        let folder = repository("samples").join(name);
+        let lines = fs::read_to_string(folder.join("expected")).expect("lines");
+        let status = i32::from(lines.contains("board"));
+        let plain = expect(&sample(name), &lines, status);
+        let whole = with_options("audit", &[], &[folder]);
+        assert_eq!((&whole.out, whole.status, &whole.err), (&plain.out, status, &plain.err));
+        assert_eq!(plain.err.is_empty(), name != "empty", "{plain:?}");
+    }
+}
+
+/// What the rules' lines mean: rule 2 and 3 in the samples, 4 with the submissions exchanged.
+#[test]
+fn rules() {
+    let [roster, first, second] = sample("stale_leader");
+    let exchanged = [roster, second, first];
+    expect(&exchanged, "refusal 0 in 0\nfork 1\nboard 2 rule 4 term 2\n", 1);
+    let told = |files: &[PathBuf; 3]| with_options("audit", &["--explain"], files).unfolded();
+    let two = "Board 1 stamped two logs as leader of term 1";
+    assert!(told(&sample("one_leader")).contains(two));
+    let three = "receipt for a record, which the first submission has, and later, in term 2,";
+    assert!(told(&sample("stale_leader")).contains(three));
+    let four = "receipt for a record, which the second submission has, and later, in term 2,";
+    assert!(told(&exchanged).contains(four));
+    assert!(told(&sample("empty")).contains("No board is named"));
+}
+
+/// Each number of a submission, in both places; the message names the file and the number's word.
+#[test]
+fn submission_numbers() {
+    let data = repository("crates/test_submission/data");
+    let [roster, accepted] = ["roster", "n00"].map(|name| data.join(name));
+    for number in 5..=15 {
+        let file = data.join(format!("n{number:02}"));
+        let row = Number::of(number).expect("a row");
+        let told = format!("number {number}, {}. {}", row.word, row.meaning);
+        let places =
+            [(1, "first", [&roster, &file, &accepted]), (2, "second", [&roster, &accepted, &file])];
+        for (place, name, files) in places {
+            let lines = format!("refusal {number} in {place}\nfork 0\n");
+            let run = expect(&files.map(PathBuf::clone), &lines, 2);
+            run.tells(&[&format!("the {name} submission {} ", quoted(&file)), &told]);
+        }
+    }
+    expect(&[roster, accepted.clone(), accepted], "refusal 0 in 0\nfork 0\n", 0);
+}
+
+/// The numbers of a roster.
+#[test]
+fn roster_numbers() {
+    let folder = Folder::new("roster_numbers");
+    let [roster, first, second] = sample("one_leader");
+    let bytes = fs::read(&roster).expect("a roster");
+    let mut other_type = bytes.clone();
+    other_type[18 + 7] = 3;
+    let mut twins = bytes.clone();
+    twins.copy_within(18..18 + 56, 18 + 56);
+    for (number, bytes) in [(2, &bytes[1..]), (3, &other_type[..]), (4, &twins)] {
+        let roster = folder.put("roster", bytes);
+        let word = NUMBERS[number].word;
+        let run = expect(
+            &[roster.clone(), first.clone(), second.clone()],
+            &format!("refusal {number} in 0\nfork 0\n"),
+            2,
+        );
+        run.tells(&[
+            &format!("the roster {} ", quoted(&roster)),
+            &format!("number {number}, {word}."),
+        ]);
+    }
+}
+
+/// A roster that is longer or shorter than it says.
+#[test]
+fn roster_counts() {
+    let folder = Folder::new("roster_counts");
+    let [roster, first, second] = sample("one_leader");
+    let bytes = fs::read(roster).expect("a roster");
+    let added = [&bytes[..], b"\n"].concat();
+    for (bytes, told) in [
+        (
+            &added[..],
+            "3 boards, and would then have 186 bytes, but it has 187 bytes: bytes were added",
+        ),
+        (
+            &bytes[..100],
+            "3 boards, and would then have 186 bytes, but it has 100 bytes: it was cut short",
+        ),
+    ] {
+        let roster = folder.put("roster", bytes);
+        expect(&[roster, first.clone(), second.clone()], "refusal 2 in 0\nfork 0\n", 2)
+            .tells(&[told]);
+    }
+}
+
+/// Files in each other's places.
+#[test]
+fn exchanged() {
+    let [roster, first, second] = sample("one_leader");
+    let [r, f, s] = [&roster, &first, &second];
+    let lines = "refusal 2 in 0\nfork 0\n";
+    for files in [[f, r, s], [s, r, f], [f, s, r], [s, f, r]] {
+        let told = format!("{} looks like a roster, and {} does not", quoted(r), quoted(files[0]));
+        let run = expect(&files.map(PathBuf::clone), lines, 2);
+        run.tells(&[&told, "they seem to be exchanged"]);
+    }
+    let told = format!("{} looks like a submission, and the roster belongs there", quoted(f));
+    expect(&[f, f, s].map(PathBuf::clone), lines, 2).tells(&[&told]);
+    let told = format!("{} looks like a roster, and a submission belongs there", quoted(r));
+    expect(&[r, r, s].map(PathBuf::clone), "refusal 6 in 1\nfork 0\n", 2).tells(&[&told]);
+    expect(&[r, f, r].map(PathBuf::clone), "refusal 6 in 2\nfork 0\n", 2).tells(&[&told]);
+}
+
+/// Files of two districts: the message says which of the three is the odd one.
+#[test]
+fn districts() {
+    let [roster, first, second] = sample("one_leader");
+    let [_, other_first, other_second] = sample("large");
+    let [r, f, s, f2, s2] = [&roster, &first, &second, &other_first, &other_second];
+    let names =
+        "is 58df3590f0b0571c00e04d557e7ed2d5, and the roster's is b31290f3aebcc8a81aabbb5d3df112b8";
+    let goes = |file: &Path| format!("{} goes with the roster", quoted(file));
+    let run = expect(&[r, f, s2].map(PathBuf::clone), "refusal 7 in 2\nfork 0\n", 2);
+    run.tells(&[&format!("{} {names}", quoted(s2)), &goes(f)]);
+    let run = expect(&[r, f2, s].map(PathBuf::clone), "refusal 7 in 1\nfork 0\n", 2);
+    run.tells(&[&format!("{} {names}", quoted(f2)), &goes(s)]);
+    let run = expect(&[r, f2, s2].map(PathBuf::clone), "refusal 7 in 1\nfork 0\n", 2);
+    run.tells(&[&format!("{} has that name too", quoted(s2)), "look for the roster"]);
+}
+
+/// One submission given twice: nothing can be found, and that is said.
+#[test]
+fn same_twice() {
+    let [roster, first, _] = sample("one_leader");
+    let run = expect(&[roster, first.clone(), first], "refusal 0 in 0\nfork 0\n", 0);
+    run.tells(&["have the same bytes"]);
+}
