@@ -1,10 +1,11 @@
 -- The layout, then the signers, then the log.
 -- Assumes nothing.
-use mathlib.Core.Path.{sym, _∙_}
+use mathlib.Core.Path.{refl, sym, _∙_}
 use native.Mathlib.Omega.{arith}
 use borrow.Author.Tests.{not-true, not-false}
 use Rattle.refusal.proofs.Laws.{passed, refused}
 use Rattle.roster.proofs.Accepted.{sizes}
+use Rattle.submission_parts.specs.Shapes.{shapeOf}
 use Rattle.submission_checks.specs.Checks.{partChecks}
 use Rattle.submission_checks.proofs.part_number.Statement.{statement}
 use Rattle.submission_checks.proofs.part_number.Tie as tie
@@ -25,23 +26,28 @@ returns-2 c =
     let asked = rw (c .before .before .replicas .ensures .0) at (c .before .all-signers-quorate .ensures) in
     sym (passed 9 _ _ (sym (c .before .before .before .before .parts-laid-out .ensures) ∙ not-false _ (c .before .before .before .if1 .left)) ∙ refused 10 _ _ (sym asked ∙ not-true _ (c .if2 .taken)))
 
+shape-of-requires : tie.Need-shape-of-requires
+shape-of-requires c κs =
+    (c .before .before .before .before .before .before .before .pre .1, sym (c .before .before .before .before .parts-laid-out .ensures) ∙ not-false _ (c .before .before .before .if1 .left))
+
 log-number-requires : tie.Need-log-number-requires
+unfolding shapeOf
 log-number-requires c κs =
-    let p = c .before .before .before .before .before .before .before .pre in
-    let asked = rw (c .before .before .replicas .ensures .0) at (c .before .all-signers-quorate .ensures) in
-    record {
+    let p = c .before .before .before .before .before .before .before .before .pre in
+    let asked = rw (c .before .before .before .replicas .ensures .0) at (c .before .before .all-signers-quorate .ensures) in
+    let laid = sym (c .before .before .before .before .before .parts-laid-out .ensures) ∙ not-false _ (c .before .before .before .before .if1 .left) in
+    rw (c .shape-of .ensures) (record {
       fine = p .0;
-      bounds = p .1;
-      layout = sym (c .before .before .before .before .parts-laid-out .ensures) ∙ not-false _ (c .before .before .before .if1 .left);
-      quorums = sym asked ∙ not-false _ (c .if2 .left);
-    }
+      known = record { bounds = p .1; layout = laid; shaped = refl };
+      quorums = sym asked ∙ not-false _ (c .before .if2 .left);
+    })
 
 returns-3 : tie.Need-returns-3
-unfolding partChecks
+unfolding partChecks shapeOf
 returns-3 c =
-    let asked = rw (c .before .before .before .replicas .ensures .0) at (c .before .before .all-signers-quorate .ensures) in
-    c .log-number .ensures
-    ∙ sym (passed 9 _ _ (sym (c .before .before .before .before .before .parts-laid-out .ensures) ∙ not-false _ (c .before .before .before .before .if1 .left)) ∙ passed 10 _ _ (sym asked ∙ not-false _ (c .before .if2 .left)))
+    let asked = rw (c .before .before .before .before .replicas .ensures .0) at (c .before .before .before .all-signers-quorate .ensures) in
+    rw (c .before .shape-of .ensures) at (c .log-number .ensures)
+    ∙ sym (passed 9 _ _ (sym (c .before .before .before .before .before .before .parts-laid-out .ensures) ∙ not-false _ (c .before .before .before .before .before .if1 .left)) ∙ passed 10 _ _ (sym asked ∙ not-false _ (c .before .before .if2 .left)))
 
 pub part-number-spec : {M : Type 1} → statement M
 part-number-spec =
@@ -52,5 +58,6 @@ part-number-spec =
     (λ c κs. let z = sizes _ (c .before .before .before .before .pre .0) in omega arith)
     all-signers-quorate-requires
     returns-2
+    shape-of-requires
     log-number-requires
     returns-3)
