@@ -3,7 +3,7 @@
 use mathlib.Core.Path.{_≡_, sym, _∙_}
 use mathlib.Core.Bool.{Bool, true, false, not}
 use mathlib.Core.List.{List}
-use Prim.Native.Nat.{ℕ, _*_, _≤_}
+use Prim.Native.Nat.{ℕ, _≤_}
 use borrow.Author.Tests.{leb-true, not-true, not-false}
 use lib.Dec.{eqb}
 use lib.ListN.{length}
@@ -12,13 +12,16 @@ use Rattle.refusal.proofs.Laws.{all-cons, passed}
 use Rattle.roster.specs.Roster.{cluster, replicas, signatureSize}
 use Rattle.log_chain.specs.Log.{withTerms, version1}
 use Rattle.log_chain.specs.Ends.{rising}
-use Rattle.submission.specs.Trailer.{trailerSize, recordCount, leaderCount}
+use Rattle.submission.specs.Trailer.{trailerSize}
 use Rattle.log_chain.specs.Runs.{runs}
-use Rattle.submission.specs.View.{leadsOf, leads, slots}
-use Rattle.log_chain.specs.Records.{recordSize, recordsOf}
-use Rattle.submission.specs.Reading.{certificates, stampsAt, leadersFrom, stampsFrom, view}
+use Rattle.submission.specs.View.{leads, slots}
+use Rattle.log_chain.specs.Records.{recordsOf}
+use Rattle.submission.specs.Reading.{view}
 use Rattle.submission.specs.Validate.{sized, versioned, named, counted, ordered, oneEach, leading, within, genuine, formOf, viewOf, slotsOf, validate}
-use Rattle.submission.proofs.Accepted.{length-certificates, length-stamps}
+use Rattle.submission.proofs.Accepted.{length-certificates}
+use Rattle.submission_parts.specs.declared.Shape.{Shape}
+use Rattle.submission_parts.specs.Shapes.{Known}
+use Rattle.submission_parts.proofs.Shapes.{known-records, known-leaders}
 use Rattle.submission_checks.specs.Checks.{leaderChecks, logChecks, partChecks}
 
 -- ---- a test that the code has asked
@@ -32,23 +35,15 @@ module _ {r b : Bool} (e : r ≡ b) where
 
 -- ---- what the checks ask
 
-module _ (roster : List ℕ) (w S : ℕ) (s : List ℕ) where
-  pub asked-leading : {n H L from : ℕ} {r : Bool} → n ≡ replicas roster → H ≡ recordCount s → L ≡ leaderCount s → from ≡ recordSize w * recordCount s
-      → ((name : List ℕ) (stamps : List (List ℕ)) → length stamps ≡ L → r ≡ every (leading (withTerms w name) n) (leadsOf (certificates w S s L from) (runs (recordsOf w H s)) stamps))
-      → r ≡ every (leading (withTerms w (cluster roster)) (replicas roster)) (leads (view w S s))
-  unfolding leads view leadersFrom
-  asked-leading en eH eL ef h =
-      let stamps = stampsAt S s (leaderCount s) (stampsFrom w S s) in
-      rw (en, eH, eL, ef) at (h (cluster roster) stamps (length-stamps w S s (leaderCount s) (stampsFrom w S s) ∙ sym eL))
-
-module _ (w S : ℕ) (s : List ℕ) where
-  pub asked-ordered : {H : ℕ} {r : Bool} → H ≡ recordCount s → r ≡ rising 1 (recordsOf w H s) → r ≡ ordered (view w S s)
+module _ (shape : Shape) (s : List ℕ) (known : Known shape s) where
+  pub asked-ordered : {r : Bool} → r ≡ rising 1 (recordsOf (shape .width) (shape .records) s) → r ≡ ordered (view (shape .width) (shape .size) s)
   unfolding ordered view
-  asked-ordered e h = rw e at h
+  asked-ordered h = rw (known-records _ _ known) at h
 
-  pub asked-count : {H L count : ℕ} → H ≡ recordCount s → L ≡ leaderCount s → count ≡ length (runs (recordsOf w H s)) → oneEach (view w S s) ≡ eqb L count
+  pub asked-count : {count : ℕ} → count ≡ length (runs (recordsOf (shape .width) (shape .records) s))
+      → oneEach (view (shape .width) (shape .size) s) ≡ eqb (shape .leaders) count
   unfolding oneEach view
-  asked-count eH eL e = rw (e, eH, eL, length-certificates w S s (leaderCount s) (leadersFrom w S s))
+  asked-count e = rw (e, known-records _ _ known, known-leaders _ _ known, length-certificates)
 
 -- ---- one by one
 

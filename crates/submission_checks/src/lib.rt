@@ -2,67 +2,67 @@
 // lowest number that applies), each check asked after those before it. The term's width is fixed here,
 // by the version, and free below.
 ghost use mathlib.Core.Path.{_≡_};
-ghost use mathlib.Core.Bool.{true};
 ghost use lib.ListN.{length};
 ghost use Rattle.refusal.specs.Checks.{refusal, first};
 ghost use Rattle.roster.specs.Roster.{rosterNumber};
 ghost use Rattle.submission_parts.specs.Parts.{Bounds};
-ghost use Rattle.submission.specs.Reading.{view, laidOut};
+ghost use Rattle.submission_parts.specs.Shapes.{Known};
+ghost use Rattle.submission.specs.Reading.{view};
 ghost use Rattle.submission.specs.Validate as paper;
 ghost use Rattle.submission_signatures.specs.Checked.{Laid, Counted};
 ghost use Rattle.submission_checks.specs.Checks.{leaderChecks, logChecks, partChecks};
 use submission_parts::CommitPart;
+use submission_parts::Shape;
 
 // 14: whether the commit index is not 0 and not above H, where there is one.
-fn index_within_log(s: &[u8], width: usize, size: usize) -> bool
-    requires { ⌜ Bounds width size (now s) × (laidOut width size (now s) ≡ true) ⌝ }
-    ensures { λ r. ⌜ r ≡ paper.within (view width size (now (s .entry)) .commit) (length (view width size
-        (now (s .entry)) .log)) ⌝ }
+fn index_within_log(s: &[u8], shape: Shape) -> bool
+    requires { ⌜ Known shape (now s) ⌝ }
+    ensures { λ r. ⌜ r ≡ paper.within (view (shape .width) (shape .size) (now (s .entry)) .commit)
+        (length (view (shape .width) (shape .size) (now (s .entry)) .log)) ⌝ }
 {
-    let CommitPart::Found(c, _) = submission_parts::commit_part(s, width, size) else {
+    let CommitPart::Found(c, _) = submission_parts::commit_part(s, shape.width, shape.size) else {
         return true;
     };
     let index = c.index as usize;
     if index == 0 {
         return false;
     }
-    index <= submission_trailer::record_count(s)
+    index <= shape.records
 }
 
 // 13 to 15.
-fn leader_number(roster: &[u8], s: &[u8], width: usize, size: usize) -> u32
-    requires { ⌜ Counted (now roster) width size (now s) ⌝ }
-    ensures { λ r. ⌜ r ≡ refusal (leaderChecks (now (roster .entry)) width size (now (s .entry))) ⌝ }
+fn leader_number(roster: &[u8], s: &[u8], shape: Shape) -> u32
+    requires { ⌜ Counted (now roster) shape (now s) ⌝ }
+    ensures { λ r. ⌜ r ≡ refusal (leaderChecks (now (roster .entry)) (shape .width) (shape .size)
+        (now (s .entry))) ⌝ }
 {
     let n = roster::replicas(roster);
-    let records = submission_trailer::record_count(s);
-    let count = submission_trailer::leader_count(s);
-    let from = submission_parts::layout::leaders_from(s, width);
-    if !submission_leaders::leaders_match_log(s, n, width, size, records, count, from) {
+    if !submission_leaders::leaders_match_log(s, n, shape) {
         return 13;
     }
-    if !index_within_log(s, width, size) {
+    if !index_within_log(s, shape) {
         return 14;
     }
-    if !submission_signatures::all_signatures_good(roster, s, width, size) {
+    if !submission_signatures::all_signatures_good(roster, s, shape) {
         return 15;
     }
     0
 }
 
 // 11 to 15.
-fn log_number(roster: &[u8], s: &[u8], width: usize, size: usize) -> u32
-    requires { ⌜ Laid (now roster) width size (now s) ⌝ }
-    ensures { λ r. ⌜ r ≡ refusal (logChecks (now (roster .entry)) width size (now (s .entry))) ⌝ }
+fn log_number(roster: &[u8], s: &[u8], shape: Shape) -> u32
+    requires { ⌜ Laid (now roster) shape (now s) ⌝ }
+    ensures { λ r. ⌜ r ≡ refusal (logChecks (now (roster .entry)) (shape .width) (shape .size)
+        (now (s .entry))) ⌝ }
 {
-    let records = submission_trailer::record_count(s);
-    if !log_terms::terms_in_order(s, width, records) {
+    if !log_terms::terms_in_order(s, shape.width, shape.records) {
         return 11;
     }
-    if submission_trailer::leader_count(s) != log_terms::run_count(s, width, records) {
+    let runs = log_terms::run_count(s, shape.width, shape.records);
+    if shape.leaders != runs {
         return 12;
     }
-    leader_number(roster, s, width, size)
+    leader_number(roster, s, shape)
 }
 
 // 9 to 15.
@@ -77,7 +77,11 @@ fn part_number(roster: &[u8], s: &[u8], width: usize, size: usize) -> u32
     if !submission_quorums::all_signers_quorate(s, n, width, size) {
         return 10;
     }
-    log_number(roster, s, width, size)
+    log_number(
+        roster,
+        s,
+        submission_parts::layout::shape_of(s, width, size),
+    )
 }
 
 // 5 to 15, against a roster that has no refusal.

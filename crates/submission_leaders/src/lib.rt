@@ -1,6 +1,7 @@
 // The leader certificates against the terms of the log (document 01, "What stops an audit", 13), over the
 // term's width. A pointer has no cluster name in it: that of the form is empty, or any, here.
 ghost use mathlib.Core.Path.{_≡_};
+ghost use mathlib.Core.Bool.{true};
 ghost use mathlib.Core.List.{List, []};
 ghost use Prim.Native.Nat.{ℕ, _+_, _*_, _≤_};
 ghost use lib.ListN.{length};
@@ -8,15 +9,17 @@ ghost use Rattle.sha256.specs.Sha256.{bytesOf};
 ghost use Rattle.words.specs.Widths.{widthMost};
 ghost use Rattle.refusal.specs.Checks.{every};
 ghost use Rattle.log_chain.specs.Log.{withTerms, pointer};
-ghost use Rattle.log_chain.specs.Runs.{run, runs};
-ghost use Rattle.submission.specs.View.{leadsOf};
+ghost use Rattle.log_chain.specs.Runs.{run};
+ghost use Rattle.submission.specs.View.{leads};
 ghost use Rattle.log_chain.specs.Records.{recordSize, recordsOf};
 ghost use Rattle.submission.specs.Reading.{ballotAt, signersAt, ballotSize};
-ghost use Rattle.submission.specs.Reading.{certificateAt, certificates, certificatesEnd};
+ghost use Rattle.submission.specs.Reading.{certificateAt, view};
+ghost use Rattle.submission_parts.specs.Shapes.{Known};
 ghost use Rattle.submission_leaders.specs.Leads as parts;
 ghost use Rattle.submission.specs.Validate as paper;
 use sha256::State;
 use submission::TERM_AT;
+use submission_parts::Shape;
 
 // Whether the last term, index and pointer of the certificate at a place are those of the first i records.
 fn follows(s: &[u8], width: usize, at: usize, i: usize, before: State) -> bool
@@ -80,33 +83,22 @@ fn leading(s: &[u8], n: usize, width: usize, at: usize, i: usize, end: usize, be
 }
 
 // 13: whether each certificate is that of its term.
-pub fn leaders_match_log(
-    s: &[u8],
-    n: usize,
-    width: usize,
-    size: usize,
-    records: usize,
-    leaders: usize,
-    at: usize,
-) -> bool
-    requires { ⌜ (width ≤ widthMost) × (records ≤ paper.recordMost)
-        × (recordSize width * records ≤ length (now s))
-        × (leaders ≡ length (runs (recordsOf width records (now s))))
-        × (certificatesEnd width size (now s) leaders at ≤ length (now s)) ⌝ }
-    ensures { λ r. ⌜ ((name : List ℕ) (stamps : List (List ℕ)) → length stamps ≡ leaders
-        → r ≡ every (paper.leading (withTerms width name) n) (leadsOf (certificates width size
-        (now (s .entry)) leaders at) (runs (recordsOf width records (now (s .entry)))) stamps)) ⌝ }
+pub fn leaders_match_log(s: &[u8], n: usize, shape: Shape) -> bool
+    requires { ⌜ Known shape (now s)
+        × (paper.oneEach (view (shape .width) (shape .size) (now s)) ≡ true) ⌝ }
+    ensures { λ r. ⌜ ((name : List ℕ) → r ≡ every (paper.leading (withTerms (shape .width) name) n)
+        (leads (view (shape .width) (shape .size) (now (s .entry))))) ⌝ }
 {
-    let mut left = leaders;
-    let mut place = at;
+    let mut left = shape.leaders;
+    let mut place = shape.from;
     let mut i = 0;
     let mut before = log_terms::pointers::pointer_zero();
     while 0 < left {
-        let walked = log_terms::pointers::next_run(s, width, records, i, before);
-        if !leading(s, n, width, place, i, walked.end, before) {
+        let walked = log_terms::pointers::next_run(s, shape.width, shape.records, i, before);
+        if !leading(s, n, shape.width, place, i, walked.end, before) {
             return false;
         }
-        place = submission_parts::certificate_end(s, place, width, size);
+        place = submission_parts::certificate_end(s, place, shape.width, shape.size);
         i = walked.end;
         before = walked.pointer;
         left -= 1;

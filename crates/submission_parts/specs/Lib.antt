@@ -1,3 +1,4 @@
 pub mod Reader
 pub mod Parts
 pub mod Commits
+pub mod Shapes

@@ -1,6 +1,7 @@
 // Where the parts of a submission stand (document 01, "A submission, read from its trailer", and "What stops
 // an audit", 9), over the term's width.
 ghost use mathlib.Core.Path.{_≡_};
+ghost use mathlib.Core.Bool.{true};
 ghost use Prim.Native.Nat.{_+_, _-_, _*_, _≤_};
 ghost use lib.ListN.{length};
 ghost use Rattle.words.specs.Widths.{widthMost};
@@ -10,9 +11,11 @@ ghost use Rattle.log_chain.specs.Records.{recordSize};
 ghost use Rattle.submission.specs.Reading as paper;
 ghost use Rattle.submission_parts.specs.Reader.{signatureMost};
 ghost use Rattle.submission_parts.specs.Parts.{Bounds, commitTests, leaderTests};
+ghost use Rattle.submission_parts.specs.Shapes.{shapeOf};
 ghost use Rattle.submission.specs.Validate.{submissionMost, recordMost, leaderMost};
 use super::CommitReading;
 use super::Place;
+use super::Shape;
 
 // Whether part 4, which begins at a place, stands where its distance says and ends at the trailer.
 fn commit_stands(s: &[u8], from: usize, size: usize) -> bool
@@ -60,7 +63,7 @@ pub fn leaders_from(s: &[u8], width: usize) -> usize
 }
 
 // The place of part 3, by its distance.
-pub fn stamps_from(s: &[u8]) -> usize
+fn stamps_from(s: &[u8]) -> usize
     requires { ⌜ (trailerSize ≤ length (now s)) × (distance (now s) 3 ≤ trailerAt (now s)) ⌝ }
     ensures { λ r. ⌜ r ≡ trailerAt (now (s .entry)) - distance (now (s .entry)) 3 ⌝ }
 {
@@ -81,4 +84,19 @@ pub fn parts_laid_out(s: &[u8], width: usize, size: usize) -> bool
         return false;
     }
     leaders_stand(s, from, width, size)
+}
+
+// The shape of a laid-out submission.
+pub fn shape_of(s: &[u8], width: usize, size: usize) -> Shape
+    requires { ⌜ Bounds width size (now s) × (paper.laidOut width size (now s) ≡ true) ⌝ }
+    ensures { λ r. ⌜ r ≡ shapeOf width size (now (s .entry)) ⌝ }
+{
+    Shape {
+        width: width,
+        size: size,
+        records: submission_trailer::record_count(s),
+        leaders: submission_trailer::leader_count(s),
+        from: leaders_from(s, width),
+        stamps: stamps_from(s),
+    }
 }

@@ -59,6 +59,16 @@ pub enum CommitPart {
     Absent,
 }
 
+// What check 9 leaves known of a submission: its widths, its counts, and where parts 2 and 3 stand.
+pub struct Shape {
+    pub width: usize,
+    pub size: usize,
+    pub records: usize,
+    pub leaders: usize,
+    pub from: usize,
+    pub stamps: usize,
+}
+
 // The bytes of a mask's signatures: one for each of the ones among its sixteen bits.
 fn signatures_size(mask: u16, size: usize) -> usize
     requires { ⌜ size ≤ inner.signatureMost ⌝ }

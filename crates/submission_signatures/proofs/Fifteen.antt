@@ -7,11 +7,13 @@ use mathlib.Core.Option.{some, none}
 use Prim.Native.Nat.{ℕ}
 use native.Mathlib.Nat.{suc-inj}
 use native.Mathlib.Omega.{arith}
+use borrow.Author.Tests.{eqb-true}
 use lib.ListN.{length}
 use Rattle.refusal.specs.Checks.{every}
 use Rattle.refusal.proofs.Laws.{every-append}
 use Rattle.submission.specs.View.{Certificate, Commit, View, leadsOf, leads, Slot, votesOf, stampOf, receiptsOf, slots}
 use Rattle.log_chain.specs.Runs.{Run, runs}
+use Rattle.submission.specs.Validate.{oneEach}
 use Rattle.submission_signatures.specs.Votes.{ballots}
 
 -- ---- two tests
@@ -46,17 +48,17 @@ votes-leads S (c ∷ cs) (r ∷ rs) (g ∷ gs) e d = rw (votes-leads S cs rs gs 
 -- ---- the three parts
 
 module _ (test : Slot → Bool) (S : ℕ) (v : View) where
-  pub parts : length (runs (v .log)) ≡ length (v .leaders) → length (v .stamps) ≡ length (v .leaders)
+  pub parts : oneEach v ≡ true → length (v .stamps) ≡ length (v .leaders)
       → every test (slots S v)
       ≡ cond (every test (flatMap (ballots S) (v .leaders)))
       (cond (every test (map (stampOf S) (leads v))) (every test (receiptsOf S (v .commit) (v .log))) false)
       false
-  unfolding slots leads
+  unfolding slots leads oneEach
   parts terms stamps =
       every-append test (flatMap (votesOf S) (leads v) ++ map (stampOf S) (leads v)) (receiptsOf S (v .commit) (v .log))
       ∙ ap (λ (b : Bool). cond b (every test (receiptsOf S (v .commit) (v .log))) false) (every-append test (flatMap (votesOf S) (leads v)) (map (stampOf S) (leads v)))
       ∙ both-tests (every test (flatMap (votesOf S) (leads v))) _ _
-      ∙ rw (votes-leads S (v .leaders) (runs (v .log)) (v .stamps) terms stamps)
+      ∙ rw (votes-leads S (v .leaders) (runs (v .log)) (v .stamps) (sym (eqb-true _ _ terms)) stamps)
 
   -- no commit certificate, no receipts
   pub no-receipts : v .commit ≡ none → every test (receiptsOf S (v .commit) (v .log)) ≡ true

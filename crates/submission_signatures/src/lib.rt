@@ -7,7 +7,6 @@ ghost use Rattle.refusal.specs.Checks.{every};
 ghost use Rattle.sha256.specs.Sha256.{bytesOf};
 ghost use Rattle.roster.specs.Roster.{cluster};
 ghost use Rattle.log_chain.specs.Log as chain;
-ghost use Rattle.submission.specs.Trailer.{recordCount};
 ghost use Rattle.submission.specs.View.{leads, stampOf, receiptsOf, slots};
 ghost use Rattle.log_chain.specs.Records.{recordsOf};
 ghost use Rattle.submission.specs.Reading.{view};
@@ -15,88 +14,66 @@ ghost use Rattle.submission.specs.Validate.{genuine};
 ghost use Rattle.submission_signatures.specs.Checked.{Checked};
 use sha256::State;
 use submission_parts::CommitPart;
+use submission_parts::Shape;
 
 pub mod receipts;
 pub mod stamps;
 pub mod votes;
 
 // Whether the stamps are good, from the pointer of record i.
-fn stamps_good_from(
-    roster: &[u8],
-    s: &[u8],
-    width: usize,
-    size: usize,
-    i: usize,
-    before: State,
-) -> bool
-    requires { ⌜ Checked (now roster) width size (now s) × (i ≤ recordCount (now s))
-        × (bytesOf before ≡ chain.pointer (chain.withTerms width []) (recordsOf width i (now s))) ⌝ }
+fn stamps_good_from(roster: &[u8], s: &[u8], shape: Shape, i: usize, before: State) -> bool
+    requires { ⌜ Checked (now roster) shape (now s) × (i ≤ shape .records)
+        × (bytesOf before ≡ chain.pointer (chain.withTerms (shape .width) []) (recordsOf (shape .width) i
+        (now s))) ⌝ }
     ensures { λ r. ⌜ r
-        ≡ every (genuine (chain.withTerms width (cluster (now (roster .entry)))) (now (roster .entry)))
-        (map (stampOf size) (leads (view width size (now (s .entry))))) ⌝ }
+        ≡ every (genuine (chain.withTerms (shape .width) (cluster (now (roster .entry))))
+        (now (roster .entry)))
+        (map (stampOf (shape .size)) (leads (view (shape .width) (shape .size) (now (s .entry))))) ⌝ }
 {
-    let records = submission_trailer::record_count(s);
-    let end = log_terms::pointers::pointer_after(s, width, i, records, before);
-    let leaders = submission_trailer::leader_count(s);
-    let from = submission_parts::layout::leaders_from(s, width);
-    let stamps = submission_parts::layout::stamps_from(s);
-    stamps::stamps_good(roster, s, width, size, records, leaders, from, stamps, end)
+    let end = log_terms::pointers::pointer_after(s, shape.width, i, shape.records, before);
+    stamps::stamps_good(roster, s, shape, end)
 }
 
 // Whether the stamps and the receipts are good. Each record is hashed once: first up to the commit index,
 // whose pointer the receipts have, then to the log's end.
-fn places_good(roster: &[u8], s: &[u8], width: usize, size: usize) -> bool
-    requires { ⌜ Checked (now roster) width size (now s) ⌝ }
+fn places_good(roster: &[u8], s: &[u8], shape: Shape) -> bool
+    requires { ⌜ Checked (now roster) shape (now s) ⌝ }
     ensures { λ r. ⌜ r
-        ≡ cond (every (genuine (chain.withTerms width (cluster (now (roster .entry)))) (now (roster .entry)))
-        (map (stampOf size) (leads (view width size (now (s .entry))))))
-        (every (genuine (chain.withTerms width (cluster (now (roster .entry)))) (now (roster .entry)))
-        (receiptsOf size (view width size (now (s .entry)) .commit) (view width size (now (s .entry)) .log)))
-        false ⌝ }
+        ≡ cond (every (genuine (chain.withTerms (shape .width) (cluster (now (roster .entry))))
+        (now (roster .entry)))
+        (map (stampOf (shape .size)) (leads (view (shape .width) (shape .size) (now (s .entry))))))
+        (every (genuine (chain.withTerms (shape .width) (cluster (now (roster .entry))))
+        (now (roster .entry)))
+        (receiptsOf (shape .size) (view (shape .width) (shape .size) (now (s .entry)) .commit)
+        (view (shape .width) (shape .size) (now (s .entry)) .log))) false ⌝ }
 {
-    let CommitPart::Found(c, at) = submission_parts::commit_part(s, width, size) else {
-        return stamps_good_from(
-            roster,
-            s,
-            width,
-            size,
-            0,
-            log_terms::pointers::pointer_zero(),
-        );
+    let CommitPart::Found(c, at) = submission_parts::commit_part(s, shape.width, shape.size) else {
+        return stamps_good_from(roster, s, shape, 0, log_terms::pointers::pointer_zero());
     };
     let index = c.index as usize;
     let pointer = log_terms::pointers::pointer_after(
         s,
-        width,
+        shape.width,
         0,
         index,
         log_terms::pointers::pointer_zero(),
     );
-    if !stamps_good_from(roster, s, width, size, index, pointer) {
+    if !stamps_good_from(roster, s, shape, index, pointer) {
         return false;
     }
-    receipts::receipts_good(
-        roster,
-        s,
-        width,
-        size,
-        submission_trailer::record_count(s),
-        at,
-        pointer,
-    )
+    receipts::receipts_good(roster, s, shape, at, pointer)
 }
 
 // 15: whether every signature is good.
-pub fn all_signatures_good(roster: &[u8], s: &[u8], width: usize, size: usize) -> bool
-    requires { ⌜ Checked (now roster) width size (now s) ⌝ }
+pub fn all_signatures_good(roster: &[u8], s: &[u8], shape: Shape) -> bool
+    requires { ⌜ Checked (now roster) shape (now s) ⌝ }
     ensures { λ r. ⌜ r
-        ≡ every (genuine (chain.withTerms width (cluster (now (roster .entry)))) (now (roster .entry)))
-        (slots size (view width size (now (s .entry)))) ⌝ }
+        ≡ every (genuine (chain.withTerms (shape .width) (cluster (now (roster .entry))))
+        (now (roster .entry)))
+        (slots (shape .size) (view (shape .width) (shape .size) (now (s .entry)))) ⌝ }
 {
-    let leaders = submission_trailer::leader_count(s);
-    let from = submission_parts::layout::leaders_from(s, width);
-    if !votes::votes_good(roster, s, width, size, leaders, from) {
+    if !votes::votes_good(roster, s, shape) {
         return false;
     }
-    places_good(roster, s, width, size)
+    places_good(roster, s, shape)
 }

@@ -1,8 +1,7 @@
 // The stamps of a submission (document 01, "What stops an audit", number 15), over the term's width.
 ghost use mathlib.Core.Path.{_≡_};
-ghost use mathlib.Core.Bool.{true};
 ghost use mathlib.Core.List.{[], _∷_, _++_, map};
-ghost use Prim.Native.Nat.{_+_, _*_, _≤_, _<_};
+ghost use Prim.Native.Nat.{_+_, _≤_, _<_};
 ghost use lib.ListN.{length, take, drop};
 ghost use Rattle.words.specs.BigEndian.{be, numberAt};
 ghost use Rattle.words.specs.Widths.{widthMost};
@@ -11,14 +10,15 @@ ghost use Rattle.sha256.specs.Sha256.{bytesOf};
 ghost use Rattle.lms.specs.Check.{good};
 ghost use Rattle.roster.specs.Roster.{cluster, replicas, keyOf, rosterNumber};
 ghost use Rattle.log_chain.specs.Log as chain;
-ghost use Rattle.log_chain.specs.Runs.{runs};
-ghost use Rattle.submission.specs.View.{leadsOf, stampOf};
-ghost use Rattle.submission.specs.Reading.{ballotSize, certificates, certificatesEnd, stampsAt};
+ghost use Rattle.submission.specs.View.{leads, stampOf};
+ghost use Rattle.submission.specs.Reading.{ballotSize, view};
 ghost use Rattle.log_chain.specs.Records.{recordsOf};
 ghost use Rattle.submission.specs.Validate as paper;
+ghost use Rattle.submission_signatures.specs.Checked.{Checked};
 use sha256::State;
 use submission::STATEMENT_MOST;
 use submission::TERM_AT;
+use submission_parts::Shape;
 
 // A stamp's kind byte.
 const STAMP: u8 = 1;
@@ -64,48 +64,41 @@ fn stamp_good(
 
 // Whether the stamps are good, from the pointer of the whole log. The last record of a term stands in the
 // next leader certificate, as the last record before the next term; that of the last term is the log's.
-pub fn stamps_good(
-    roster: &[u8],
-    s: &[u8],
-    width: usize,
-    size: usize,
-    records: usize,
-    leaders: usize,
-    from: usize,
-    stamps: usize,
-    pointer: State,
-) -> bool
-    requires { ⌜ (rosterNumber (now roster) ≡ 0) × (width ≤ widthMost) × (records ≤ paper.recordMost)
-        × (certificatesEnd width size (now s) leaders from ≤ length (now s))
-        × (stamps + leaders * size ≤ length (now s))
-        × (length (runs (recordsOf width records (now s))) ≡ leaders)
-        × (every (paper.leading (chain.withTerms width (cluster (now roster))) (replicas (now roster)))
-        (leadsOf (certificates width size (now s) leaders from) (runs (recordsOf width records (now s)))
-        (stampsAt size (now s) leaders stamps)) ≡ true)
-        × (bytesOf pointer ≡ chain.pointer (chain.withTerms width []) (recordsOf width records (now s))) ⌝ }
+pub fn stamps_good(roster: &[u8], s: &[u8], shape: Shape, pointer: State) -> bool
+    requires { ⌜ Checked (now roster) shape (now s)
+        × (bytesOf pointer ≡ chain.pointer (chain.withTerms (shape .width) []) (recordsOf (shape .width)
+        (shape .records) (now s))) ⌝ }
     ensures { λ r. ⌜ r
-        ≡ every (paper.genuine (chain.withTerms width (cluster (now (roster .entry)))) (now (roster .entry)))
-        (map (stampOf size) (leadsOf (certificates width size (now (s .entry)) leaders from)
-        (runs (recordsOf width records (now (s .entry))))
-        (stampsAt size (now (s .entry)) leaders stamps))) ⌝ }
+        ≡ every (paper.genuine (chain.withTerms (shape .width) (cluster (now (roster .entry))))
+        (now (roster .entry)))
+        (map (stampOf (shape .size)) (leads (view (shape .width) (shape .size) (now (s .entry))))) ⌝ }
 {
-    let mut left = leaders;
-    let mut at = from;
-    let mut stamp = stamps;
+    let mut left = shape.leaders;
+    let mut at = shape.from;
+    let mut stamp = shape.stamps;
     while 1 < left {
-        let next = submission_parts::certificate_end(s, at, width, size);
-        let last_index = next + TERM_AT + width + width;
+        let next = submission_parts::certificate_end(s, at, shape.width, shape.size);
+        let last_index = next + TERM_AT + shape.width + shape.width;
         let index = words::u32_at(s, last_index);
         let last = lm_hash::value_at(s, last_index + log_chain::INDEX_SIZE);
-        if !stamp_good(roster, s, width, size, at, stamp, index, last) {
+        if !stamp_good(roster, s, shape.width, shape.size, at, stamp, index, last) {
             return false;
         }
         at = next;
-        stamp += size;
+        stamp += shape.size;
         left -= 1;
     }
     if left == 0 {
         return true;
     }
-    stamp_good(roster, s, width, size, at, stamp, records as u32, pointer)
+    stamp_good(
+        roster,
+        s,
+        shape.width,
+        shape.size,
+        at,
+        stamp,
+        shape.records as u32,
+        pointer,
+    )
 }

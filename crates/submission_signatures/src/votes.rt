@@ -1,6 +1,5 @@
 // The votes of a submission (document 01, "What stops an audit", number 15), over the term's width.
 ghost use mathlib.Core.Path.{_≡_};
-ghost use mathlib.Core.Bool.{true};
 ghost use mathlib.Core.List.{flatMap};
 ghost use Prim.Native.Nat.{_+_, _^_, _≤_, _<_};
 ghost use lib.ListN.{length};
@@ -9,11 +8,13 @@ ghost use Rattle.refusal.specs.Checks.{every};
 ghost use Rattle.roster.specs.Roster.{cluster, replicas, rosterNumber};
 ghost use Rattle.log_chain.specs.Log as chain;
 ghost use Rattle.submission.specs.Reading.{signersAt, ballotSize, certificateAt, certificateEnd};
-ghost use Rattle.submission.specs.Reading.{certificates, certificatesEnd};
+ghost use Rattle.submission.specs.Reading.{view};
 ghost use Rattle.submission.specs.Validate as paper;
-ghost use Rattle.submission_signatures.specs.Votes.{ballots, quorateAll};
+ghost use Rattle.submission_signatures.specs.Votes.{ballots};
+ghost use Rattle.submission_signatures.specs.Checked.{Checked};
 use submission::SIGNERS_SIZE;
 use submission::STATEMENT_MOST;
+use submission_parts::Shape;
 
 // A vote's kind byte.
 const VOTE: u8 = 3;
@@ -45,29 +46,21 @@ fn votes_good_at(roster: &[u8], s: &[u8], width: usize, size: usize, at: usize) 
     )
 }
 
-// Whether the votes of so many leader certificates from a place on are good.
-pub fn votes_good(
-    roster: &[u8],
-    s: &[u8],
-    width: usize,
-    size: usize,
-    leaders: usize,
-    from: usize,
-) -> bool
-    requires { ⌜ (rosterNumber (now roster) ≡ 0) × (width ≤ widthMost)
-        × (certificatesEnd width size (now s) leaders from ≤ length (now s))
-        × (quorateAll (replicas (now roster)) (certificates width size (now s) leaders from) ≡ true) ⌝ }
+// Whether the votes of the leader certificates are good.
+pub fn votes_good(roster: &[u8], s: &[u8], shape: Shape) -> bool
+    requires { ⌜ Checked (now roster) shape (now s) ⌝ }
     ensures { λ r. ⌜ r
-        ≡ every (paper.genuine (chain.withTerms width (cluster (now (roster .entry)))) (now (roster .entry)))
-        (flatMap (ballots size) (certificates width size (now (s .entry)) leaders from)) ⌝ }
+        ≡ every (paper.genuine (chain.withTerms (shape .width) (cluster (now (roster .entry))))
+        (now (roster .entry)))
+        (flatMap (ballots (shape .size)) (view (shape .width) (shape .size) (now (s .entry)) .leaders)) ⌝ }
 {
-    let mut left = leaders;
-    let mut at = from;
+    let mut left = shape.leaders;
+    let mut at = shape.from;
     while 0 < left {
-        if !votes_good_at(roster, s, width, size, at) {
+        if !votes_good_at(roster, s, shape.width, shape.size, at) {
             return false;
         }
-        at = submission_parts::certificate_end(s, at, width, size);
+        at = submission_parts::certificate_end(s, at, shape.width, shape.size);
         left -= 1;
     }
     true

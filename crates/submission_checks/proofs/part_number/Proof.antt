@@ -1,9 +1,10 @@
 -- The layout, then the signers, then the log.
 -- Assumes nothing.
-use mathlib.Core.Path.{sym, _∙_}
+use mathlib.Core.Path.{refl, sym, _∙_}
 use native.Mathlib.Omega.{arith}
 use Rattle.refusal.proofs.Laws.{passed, refused}
 use Rattle.roster.proofs.Accepted.{sizes}
+use Rattle.submission_parts.specs.Shapes.{shapeOf}
 use Rattle.submission_checks.specs.Checks.{partChecks}
 use Rattle.submission_checks.proofs.Facts.{met, unmet}
 use Rattle.submission_checks.proofs.part_number.Statement.{statement}
@@ -26,25 +27,32 @@ returns-2 c =
     let asked = rw (c .before .before .replicas .ensures .0) at (c .before .all-signers-quorate .ensures) in
     sym (passed 9 _ _ (met (laid .before .parts-laid-out .ensures) (laid .if1 .left)) ∙ refused 10 _ _ (unmet asked (c .if2 .taken)))
 
-log-number-requires : tie.Need-log-number-requires
-log-number-requires c κs =
+shape-of-requires : tie.Need-shape-of-requires
+shape-of-requires c κs =
     let laid = c .before .before .before in
+    (laid .before .before .before .before .pre .1, met (laid .before .parts-laid-out .ensures) (laid .if1 .left))
+
+log-number-requires : tie.Need-log-number-requires
+unfolding shapeOf
+log-number-requires c κs =
+    let quorate = c .before in
+    let laid = quorate .before .before .before in
     let p = laid .before .before .before .before .pre in
-    let asked = rw (c .before .before .replicas .ensures .0) at (c .before .all-signers-quorate .ensures) in
-    record {
+    let asked = rw (quorate .before .before .replicas .ensures .0) at (quorate .before .all-signers-quorate .ensures) in
+    rw (c .shape-of .ensures) (record {
       fine = p .0;
-      bounds = p .1;
-      layout = met (laid .before .parts-laid-out .ensures) (laid .if1 .left);
-      quorums = met asked (c .if2 .left);
-    }
+      known = record { bounds = p .1; layout = met (laid .before .parts-laid-out .ensures) (laid .if1 .left); shaped = refl };
+      quorums = met asked (quorate .if2 .left);
+    })
 
 returns-3 : tie.Need-returns-3
-unfolding partChecks
+unfolding partChecks shapeOf
 returns-3 c =
-    let laid = c .before .before .before .before in
-    let asked = rw (c .before .before .before .replicas .ensures .0) at (c .before .before .all-signers-quorate .ensures) in
-    c .log-number .ensures
-    ∙ sym (passed 9 _ _ (met (laid .before .parts-laid-out .ensures) (laid .if1 .left)) ∙ passed 10 _ _ (met asked (c .before .if2 .left)))
+    let quorate = c .before .before in
+    let laid = quorate .before .before .before in
+    let asked = rw (quorate .before .before .replicas .ensures .0) at (quorate .before .all-signers-quorate .ensures) in
+    rw (c .before .shape-of .ensures) at (c .log-number .ensures)
+    ∙ sym (passed 9 _ _ (met (laid .before .parts-laid-out .ensures) (laid .if1 .left)) ∙ passed 10 _ _ (met asked (quorate .if2 .left)))
 
 pub part-number-spec : {M : Type 1} → statement M
 part-number-spec =
@@ -55,5 +63,6 @@ part-number-spec =
     (λ c κs. let z = sizes _ (c .before .before .before .before .pre .0) in omega arith)
     all-signers-quorate-requires
     returns-2
+    shape-of-requires
     log-number-requires
     returns-3)

@@ -9,45 +9,53 @@ use lib.ListN.{length, drop}
 use Rattle.sha256.specs.Sha256.{bytesOf}
 use Rattle.refusal.specs.Checks.{every}
 use Rattle.log_chain.specs.Log.{withTerms, pointer}
-use Rattle.log_chain.specs.Runs.{runs}
-use Rattle.submission.specs.View.{leadsOf}
+use Rattle.submission.specs.View.{leadsOf, leads}
 use Rattle.log_chain.specs.Records.{recordsOf}
-use Rattle.log_chain.proofs.Records.{fewer-inside}
-use Rattle.submission.specs.Reading.{certificates, certificatesEnd}
+use Rattle.submission.specs.Reading.{certificates, certificatesEnd, view}
 use Rattle.log_terms.specs.Later.{runsLeft}
 use Rattle.submission.specs.Validate.{leading}
 use Rattle.submission.proofs.Certificates.{certificate-head, first-inside, rest-inside}
+use Rattle.submission_parts.proofs.Shapes.{known-leaders, known-stamps, known-leads, stamp-count, run-count, few-records, records-room, upto-room, leaders-room}
 use Rattle.submission_leaders.proofs.LeadWalk.{led, lead-fails, lead-next}
 use Rattle.log_terms.proofs.Walks.{runs-all, runs-some}
 use Rattle.submission_leaders.proofs.leaders_match_log.Statement.{statement}
 use Rattle.submission_leaders.proofs.leaders_match_log.Tie as tie
 
 abbrev Inv-loop : tie.InvT-loop
-Inv-loop s n w size records leaders at left₀ place₀ i₀ before₀ left place i before =
-    (left ≤ leaders) × (i ≤ records) × (left ≡ length (runsLeft w records i s)) × (certificatesEnd w size s left place ≤ length s)
+Inv-loop s n shape left₀ place₀ i₀ before₀ left place i before =
+    let w = shape .width in
+    let S = shape .size in
+    (left ≤ shape .leaders) × (i ≤ shape .records) × (left ≡ length (runsLeft w (shape .records) i s)) × (certificatesEnd w S s left place ≤ length s)
     × (bytesOf before ≡ pointer (withTerms w []) (recordsOf w i s))
-    × ((name : List ℕ) (stamps : List (List ℕ)) → length stamps ≡ leaders
-    → every (leading (withTerms w name) n) (leadsOf (certificates w size s left place) (runsLeft w records i s) (drop (leaders - left) stamps))
-    ≡ every (leading (withTerms w name) n) (leadsOf (certificates w size s leaders at) (runs (recordsOf w records s)) stamps))
+    × ((name : List ℕ)
+    → every (leading (withTerms w name) n) (leadsOf (certificates w S s left place) (runsLeft w (shape .records) i s) (drop (shape .leaders - left) (view w S s .stamps)))
+    ≡ every (leading (withTerms w name) n) (leads (view w S s)))
 
 abbrev μ-loop : tie.MeasureT-loop
-μ-loop s n w size records leaders at left₀ place₀ i₀ before₀ left place i before = left
+μ-loop s n shape left₀ place₀ i₀ before₀ left place i before = left
 
 loop-holds : tie.Need-loop-holds Inv-loop μ-loop
-unfolding recordsOf
+unfolding recordsOf view
 loop-holds c =
     let start = c .before .before in
     let a = start .args in
-    let all = runs-all (a .width) (a .records) (a .s .now) in
-    let none : a .leaders - a .leaders ≡ 0 = omega arith in
-    (omega arith, omega arith, start .pre .3 ∙ ap length (sym all), start .pre .4, c .pointer-zero .ensures (a .width), (λ name stamps e. rw (none, all)))
+    let p = start .pre in
+    let all = runs-all (a .shape .width) (a .shape .records) (a .s .now) in
+    let none : a .shape .leaders - a .shape .leaders ≡ 0 = omega arith in (
+      omega arith,
+      omega arith,
+      sym (run-count _ _ (p .0) (p .1)) ∙ ap length (sym all),
+      leaders-room _ _ (p .0),
+      c .pointer-zero .ensures (a .shape .width),
+      (λ name. rw (none, all, ← known-leads _ _ (p .0), ← known-leaders _ _ (p .0), ← known-stamps _ _ (p .0))),
+    )
 
 next-run-requires : tie.Need-next-run-requires Inv-loop μ-loop
 next-run-requires c κs =
     let start = c .before .before .before .before in
     let l = c .before .loop in
     let a = start .args in
-    (start .pre .0, runs-some (a .width) (a .records) (l .i) (a .s .now) (omega arith), omega (arith, start .pre .1), start .pre .2, l .inv .4)
+    (start .pre .0 .bounds .width, runs-some (a .shape .width) (a .shape .records) (l .i) (a .s .now) (omega arith), omega (arith, few-records _ _ (start .pre .0)), records-room _ _ (start .pre .0), l .inv .4)
 
 leading-requires : tie.Need-leading-requires Inv-loop μ-loop
 leading-requires c κs =
@@ -55,22 +63,16 @@ leading-requires c κs =
     let start = c .before .before .before .before .before in
     let a = start .args in
     let s = a .s .now in
-    let inside = first-inside (a .width) (a .size) s (l .left) (l .place) (omega (arith, c .before .loop-test .taken)) (l .inv .3) in
-    let ends = c .next-run .ensures .0 in (
-      start .pre .0,
-      le-trans (certificate-head (a .width) (a .size) s (l .place)) inside,
-      fewer-inside (a .width) _ _ (l .inv .1) (start .pre .2),
-      fewer-inside (a .width) _ _ (ends .1) (start .pre .2),
-      l .inv .4,
-    )
+    let inside = first-inside (a .shape .width) (a .shape .size) s (l .left) (l .place) (omega (arith, c .before .loop-test .taken)) (l .inv .3) in
+    (start .pre .0 .bounds .width, le-trans (certificate-head (a .shape .width) (a .shape .size) s (l .place)) inside, upto-room _ _ (start .pre .0) _ (l .inv .1), upto-room _ _ (start .pre .0) _ (c .next-run .ensures .0 .1), l .inv .4)
 
 returns : tie.Need-returns Inv-loop μ-loop
-returns c name stamps e =
-    let looped = c .before .before .before .before in
-    let l = looped .loop in
-    let a = looped .before .before .before .args in
-    lead-fails (a .width) (a .size) (a .s .now) (leading (withTerms (a .width) name) (a .n)) (l .left) (l .place) (runsLeft (a .width) (a .records) (l .i) (a .s .now)) (a .leaders) stamps
-    (l .inv .5 name stamps e) (omega (arith, c .before .before .before .loop-test .taken)) (l .inv .0) e _ _ (c .before .before .next-run .ensures .1 .1)
+returns c name =
+    let l = c .before .before .before .before .loop in
+    let start = c .before .before .before .before .before .before .before in
+    let a = start .args in
+    lead-fails (a .shape .width) (a .shape .size) (a .s .now) (leading (withTerms (a .shape .width) name) (a .n)) (l .left) (l .place) (runsLeft (a .shape .width) (a .shape .records) (l .i) (a .s .now)) (a .shape .leaders) _
+    (l .inv .5 name) (omega (arith, c .before .before .before .loop-test .taken)) (l .inv .0) (stamp-count _ _ (start .pre .0)) _ _ (c .before .before .next-run .ensures .1 .1)
     (c .before .leading .ensures name) (c .if1 .taken)
 
 certificate-end-requires : tie.Need-certificate-end-requires Inv-loop μ-loop
@@ -79,7 +81,7 @@ certificate-end-requires c κs =
     let l = looped .loop in
     let start = looped .before .before .before in
     let a = start .args in
-    (start .pre .0, first-inside (a .width) (a .size) (a .s .now) (l .left) (l .place) (omega (arith, c .before .before .before .loop-test .taken)) (l .inv .3))
+    (start .pre .0 .bounds .width, first-inside (a .shape .width) (a .shape .size) (a .s .now) (l .left) (l .place) (omega (arith, c .before .before .before .loop-test .taken)) (l .inv .3))
 
 sub-left : tie.Need-sub-left Inv-loop μ-loop
 sub-left c = omega (arith, c .before .before .before .before .before .loop-test .taken)
@@ -89,9 +91,9 @@ loop-less c = omega (arith, c .before .before .before .before .before .loop-test
 
 loop-again : tie.Need-loop-again Inv-loop μ-loop
 loop-again c =
-    let looped = c .before .before .before .before .before .before in
-    let l = looped .loop in
-    let a = looped .before .before .before .args in
+    let l = c .before .before .before .before .before .before .loop in
+    let start = c .before .before .before .before .before .before .before .before .before in
+    let a = start .args in
     let s = a .s .now in
     let more : 0 < l .left = omega (arith, c .before .before .before .before .before .loop-test .taken) in
     let walked = c .before .before .before .before .next-run .ensures in
@@ -99,20 +101,20 @@ loop-again c =
       omega arith,
       walked .0 .1,
       omega (arith, l .inv .2, ap length (walked .1 .1)),
-      rw place (rest-inside (a .width) (a .size) s (l .left) (l .place) more (l .inv .3)),
+      rw place (rest-inside (a .shape .width) (a .shape .size) s (l .left) (l .place) more (l .inv .3)),
       walked .1 .0,
-      (λ name stamps e.
+      (λ name.
           rw place
-          (lead-next (a .width) (a .size) s (leading (withTerms (a .width) name) (a .n)) (l .left) (l .place) (runsLeft (a .width) (a .records) (l .i) s) (a .leaders) stamps
-          (l .inv .5 name stamps e) more (l .inv .0) e _ _ (walked .1 .1) (c .before .before .before .leading .ensures name) (c .before .before .if1 .left))),
+          (lead-next (a .shape .width) (a .shape .size) s (leading (withTerms (a .shape .width) name) (a .n)) (l .left) (l .place) (runsLeft (a .shape .width) (a .shape .records) (l .i) s) (a .shape .leaders) _
+          (l .inv .5 name) more (l .inv .0) (stamp-count _ _ (start .pre .0)) _ _ (walked .1 .1) (c .before .before .before .leading .ensures name) (c .before .before .if1 .left))),
     )
 
 returns-2 : tie.Need-returns-2 Inv-loop μ-loop
-returns-2 c name stamps e =
+returns-2 c name =
     let l = c .before .loop in
     let a = c .before .before .before .before .args in
-    led (a .width) (a .size) (a .s .now) (leading (withTerms (a .width) name) (a .n)) (l .left) (l .place) (runsLeft (a .width) (a .records) (l .i) (a .s .now)) (a .leaders) stamps
-    (l .inv .5 name stamps e) (omega (arith, c .loop-test .left))
+    led (a .shape .width) (a .shape .size) (a .s .now) (leading (withTerms (a .shape .width) name) (a .n)) (l .left) (l .place) (runsLeft (a .shape .width) (a .shape .records) (l .i) (a .s .now)) (a .shape .leaders) _
+    (l .inv .5 name) (omega (arith, c .loop-test .left))
 
 pub leaders-match-log-spec : {M : Type 1} → statement M
 leaders-match-log-spec =
