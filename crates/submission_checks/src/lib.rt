@@ -6,8 +6,7 @@ ghost use lib.ListN.{length};
 ghost use Rattle.refusal.specs.Checks.{refusal, first};
 ghost use Rattle.roster.specs.Roster.{rosterNumber};
 ghost use Rattle.submission_parts.specs.Parts.{Bounds};
-ghost use Rattle.submission_parts.specs.Shapes.{Known};
-ghost use Rattle.submission.specs.Reading.{view};
+ghost use Rattle.submission_parts.specs.Shapes.{Known, viewIn};
 ghost use Rattle.submission.specs.Validate as paper;
 ghost use Rattle.submission_signatures.specs.Checked.{Laid, Counted};
 ghost use Rattle.submission_checks.specs.Checks.{leaderChecks, logChecks, partChecks};
@@ -17,8 +16,8 @@ use submission_parts::Shape;
 // 14: whether the commit index is not 0 and not above H, where there is one.
 fn index_within_log(s: &[u8], shape: Shape) -> bool
     requires { ⌜ Known shape (now s) ⌝ }
-    ensures { λ r. ⌜ r ≡ paper.within (view (shape .width) (shape .size) (now (s .entry)) .commit)
-        (length (view (shape .width) (shape .size) (now (s .entry)) .log)) ⌝ }
+    ensures { λ r. ⌜ r ≡ paper.within (viewIn shape (now (s .entry)) .commit)
+        (length (viewIn shape (now (s .entry)) .log)) ⌝ }
 {
     let CommitPart::Found(c, _) = submission_parts::commit_part(s, shape.width, shape.size) else {
         return true;

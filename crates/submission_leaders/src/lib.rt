@@ -13,8 +13,8 @@ ghost use Rattle.log_chain.specs.Runs.{run};
 ghost use Rattle.submission.specs.View.{leads};
 ghost use Rattle.log_chain.specs.Records.{recordSize, recordsOf};
 ghost use Rattle.submission.specs.Reading.{ballotAt, signersAt, ballotSize};
-ghost use Rattle.submission.specs.Reading.{certificateAt, view};
-ghost use Rattle.submission_parts.specs.Shapes.{Known};
+ghost use Rattle.submission.specs.Reading.{certificateAt};
+ghost use Rattle.submission_parts.specs.Shapes.{Known, viewIn};
 ghost use Rattle.submission_leaders.specs.Leads as parts;
 ghost use Rattle.submission.specs.Validate as paper;
 use sha256::State;
@@ -85,9 +85,9 @@ fn leading(s: &[u8], n: usize, width: usize, at: usize, i: usize, end: usize, be
 // 13: whether each certificate is that of its term.
 pub fn leaders_match_log(s: &[u8], n: usize, shape: Shape) -> bool
     requires { ⌜ Known shape (now s)
-        × (paper.oneEach (view (shape .width) (shape .size) (now s)) ≡ true) ⌝ }
+        × (paper.oneEach (viewIn shape (now s)) ≡ true) ⌝ }
     ensures { λ r. ⌜ ((name : List ℕ) → r ≡ every (paper.leading (withTerms (shape .width) name) n)
-        (leads (view (shape .width) (shape .size) (now (s .entry))))) ⌝ }
+        (leads (viewIn shape (now (s .entry))))) ⌝ }
 {
     let mut left = shape.leaders;
     let mut place = shape.from;

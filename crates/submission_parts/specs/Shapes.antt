@@ -4,7 +4,8 @@ use mathlib.Core.Bool.{true}
 use mathlib.Core.List.{List}
 use Prim.Native.Nat.{ℕ}
 use Rattle.submission.specs.Trailer.{recordCount, leaderCount}
-use Rattle.submission.specs.Reading.{leadersFrom, stampsFrom, laidOut}
+use Rattle.submission.specs.View.{View}
+use Rattle.submission.specs.Reading.{leadersFrom, stampsFrom, view, laidOut}
 use Rattle.submission_parts.specs.declared.Shape.{Shape}
 use Rattle.submission_parts.specs.Parts.{Bounds}
 
@@ -19,6 +20,10 @@ shapeOf w S s =
       from = leadersFrom w S s;
       stamps = stampsFrom w S s;
     }
+
+-- what a submission of a shape says
+abbrev pub viewIn : Shape → List ℕ → View
+viewIn shape s = view (shape .width) (shape .size) s
 
 -- checks 5, 8 and 9 were met, and this is the shape
 pub record Known (shape : Shape) (s : List ℕ) : Type 0 where

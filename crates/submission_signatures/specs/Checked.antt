@@ -8,9 +8,8 @@ use Rattle.refusal.specs.Checks.{every}
 use Rattle.roster.specs.Roster.{cluster, replicas, rosterNumber}
 use Rattle.log_chain.specs.Log.{withTerms}
 use Rattle.submission.specs.View.{leads}
-use Rattle.submission.specs.Reading.{view}
 use Rattle.submission.specs.Validate.{quorate, masks, oneEach, leading, within}
-use Rattle.submission_parts.specs.Shapes.{Known}
+use Rattle.submission_parts.specs.Shapes.{Known, viewIn}
 use Rattle.submission_parts.specs.declared.Shape.{Shape}
 
 module _ (roster : List ℕ) (shape : Shape) (s : List ℕ) where
@@ -18,17 +17,16 @@ module _ (roster : List ℕ) (shape : Shape) (s : List ℕ) where
   pub record Laid : Type 0 where
     pub fine : rosterNumber roster ≡ 0
     pub known : Known shape s
-    pub quorums : every (quorate (replicas roster)) (masks (view (shape .width) (shape .size) s)) ≡ true
+    pub quorums : every (quorate (replicas roster)) (masks (viewIn shape s)) ≡ true
 
   -- 2 to 12
   pub record Counted : Type 0 where
     pub laid : Laid
-    pub count : oneEach (view (shape .width) (shape .size) s) ≡ true
+    pub count : oneEach (viewIn shape s) ≡ true
 
   -- 2 to 14
   pub record Checked : Type 0 where
     pub counted : Counted
     pub leaders : every (leading (withTerms (shape .width) (cluster roster)) (replicas roster))
-        (leads (view (shape .width) (shape .size) s)) ≡ true
-    pub commit : within (view (shape .width) (shape .size) s .commit)
-        (length (view (shape .width) (shape .size) s .log)) ≡ true
+        (leads (viewIn shape s)) ≡ true
+    pub commit : within (viewIn shape s .commit) (length (viewIn shape s .log)) ≡ true

@@ -5,13 +5,12 @@ ghost use mathlib.Core.List.{[], map};
 ghost use Prim.Native.Nat.{_≤_};
 ghost use Rattle.refusal.specs.Checks.{every};
 ghost use Rattle.sha256.specs.Sha256.{bytesOf};
-ghost use Rattle.roster.specs.Roster.{cluster};
 ghost use Rattle.log_chain.specs.Log as chain;
 ghost use Rattle.submission.specs.View.{leads, stampOf, receiptsOf, slots};
 ghost use Rattle.log_chain.specs.Records.{recordsOf};
-ghost use Rattle.submission.specs.Reading.{view};
-ghost use Rattle.submission.specs.Validate.{genuine};
 ghost use Rattle.submission_signatures.specs.Checked.{Checked};
+ghost use Rattle.submission_parts.specs.Shapes.{viewIn};
+ghost use Rattle.submission_signatures.specs.Genuine.{genuineIn};
 use sha256::State;
 use submission_parts::CommitPart;
 use submission_parts::Shape;
@@ -26,9 +25,8 @@ fn stamps_good_from(roster: &[u8], s: &[u8], shape: Shape, i: usize, before: Sta
         × (bytesOf before ≡ chain.pointer (chain.withTerms (shape .width) []) (recordsOf (shape .width) i
         (now s))) ⌝ }
     ensures { λ r. ⌜ r
-        ≡ every (genuine (chain.withTerms (shape .width) (cluster (now (roster .entry))))
-        (now (roster .entry)))
-        (map (stampOf (shape .size)) (leads (view (shape .width) (shape .size) (now (s .entry))))) ⌝ }
+        ≡ every (genuineIn (shape .width) (now (roster .entry)))
+        (map (stampOf (shape .size)) (leads (viewIn shape (now (s .entry))))) ⌝ }
 {
     let end = log_terms::pointers::pointer_after(s, shape.width, i, shape.records, before);
     stamps::stamps_good(roster, s, shape, end)
@@ -39,13 +37,11 @@ fn stamps_good_from(roster: &[u8], s: &[u8], shape: Shape, i: usize, before: Sta
 fn places_good(roster: &[u8], s: &[u8], shape: Shape) -> bool
     requires { ⌜ Checked (now roster) shape (now s) ⌝ }
     ensures { λ r. ⌜ r
-        ≡ cond (every (genuine (chain.withTerms (shape .width) (cluster (now (roster .entry))))
-        (now (roster .entry)))
-        (map (stampOf (shape .size)) (leads (view (shape .width) (shape .size) (now (s .entry))))))
-        (every (genuine (chain.withTerms (shape .width) (cluster (now (roster .entry))))
-        (now (roster .entry)))
-        (receiptsOf (shape .size) (view (shape .width) (shape .size) (now (s .entry)) .commit)
-        (view (shape .width) (shape .size) (now (s .entry)) .log))) false ⌝ }
+        ≡ cond (every (genuineIn (shape .width) (now (roster .entry)))
+        (map (stampOf (shape .size)) (leads (viewIn shape (now (s .entry))))))
+        (every (genuineIn (shape .width) (now (roster .entry)))
+        (receiptsOf (shape .size) (viewIn shape (now (s .entry)) .commit)
+        (viewIn shape (now (s .entry)) .log))) false ⌝ }
 {
     let CommitPart::Found(c, at) = submission_parts::commit_part(s, shape.width, shape.size) else {
         return stamps_good_from(roster, s, shape, 0, log_terms::pointers::pointer_zero());
@@ -68,9 +64,8 @@ fn places_good(roster: &[u8], s: &[u8], shape: Shape) -> bool
 pub fn all_signatures_good(roster: &[u8], s: &[u8], shape: Shape) -> bool
     requires { ⌜ Checked (now roster) shape (now s) ⌝ }
     ensures { λ r. ⌜ r
-        ≡ every (genuine (chain.withTerms (shape .width) (cluster (now (roster .entry))))
-        (now (roster .entry)))
-        (slots (shape .size) (view (shape .width) (shape .size) (now (s .entry)))) ⌝ }
+        ≡ every (genuineIn (shape .width) (now (roster .entry)))
+        (slots (shape .size) (viewIn shape (now (s .entry)))) ⌝ }
 {
     if !votes::votes_good(roster, s, shape) {
         return false;

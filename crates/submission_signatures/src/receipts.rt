@@ -5,13 +5,12 @@ ghost use mathlib.Core.Option.{some};
 ghost use Rattle.words.specs.BigEndian.{numberAt};
 ghost use Rattle.refusal.specs.Checks.{every};
 ghost use Rattle.sha256.specs.Sha256.{bytesOf};
-ghost use Rattle.roster.specs.Roster.{cluster};
 ghost use Rattle.log_chain.specs.Log as chain;
 ghost use Rattle.submission.specs.View.{receiptsOf};
 ghost use Rattle.log_chain.specs.Records.{recordsOf};
 ghost use Rattle.submission.specs.Reading.{commitAt, commitFrom, commitOf};
-ghost use Rattle.submission.specs.Validate as paper;
 ghost use Rattle.submission_signatures.specs.Checked.{Checked};
+ghost use Rattle.submission_signatures.specs.Genuine.{genuineIn};
 use sha256::State;
 use submission::COMMIT_FIELDS_SIZE;
 use submission::COMMIT_SIGNERS_AT;
@@ -30,8 +29,7 @@ pub fn receipts_good(roster: &[u8], s: &[u8], shape: Shape, at: usize, pointer: 
         × (bytesOf pointer ≡ chain.pointer (chain.withTerms (shape .width) []) (recordsOf (shape .width)
         (numberAt 4 (now s) at) (now s))) ⌝ }
     ensures { λ r. ⌜ r
-        ≡ every (paper.genuine (chain.withTerms (shape .width) (cluster (now (roster .entry))))
-        (now (roster .entry)))
+        ≡ every (genuineIn (shape .width) (now (roster .entry)))
         (receiptsOf (shape .size) (some (commitAt (now (s .entry)) at)) (recordsOf (shape .width)
         (shape .records) (now (s .entry)))) ⌝ }
 {

@@ -11,10 +11,11 @@ ghost use Rattle.lms.specs.Check.{good};
 ghost use Rattle.roster.specs.Roster.{cluster, replicas, keyOf, rosterNumber};
 ghost use Rattle.log_chain.specs.Log as chain;
 ghost use Rattle.submission.specs.View.{leads, stampOf};
-ghost use Rattle.submission.specs.Reading.{ballotSize, view};
+ghost use Rattle.submission.specs.Reading.{ballotSize};
 ghost use Rattle.log_chain.specs.Records.{recordsOf};
-ghost use Rattle.submission.specs.Validate as paper;
 ghost use Rattle.submission_signatures.specs.Checked.{Checked};
+ghost use Rattle.submission_parts.specs.Shapes.{viewIn};
+ghost use Rattle.submission_signatures.specs.Genuine.{genuineIn};
 use sha256::State;
 use submission::STATEMENT_MOST;
 use submission::TERM_AT;
@@ -69,9 +70,8 @@ pub fn stamps_good(roster: &[u8], s: &[u8], shape: Shape, pointer: State) -> boo
         × (bytesOf pointer ≡ chain.pointer (chain.withTerms (shape .width) []) (recordsOf (shape .width)
         (shape .records) (now s))) ⌝ }
     ensures { λ r. ⌜ r
-        ≡ every (paper.genuine (chain.withTerms (shape .width) (cluster (now (roster .entry))))
-        (now (roster .entry)))
-        (map (stampOf (shape .size)) (leads (view (shape .width) (shape .size) (now (s .entry))))) ⌝ }
+        ≡ every (genuineIn (shape .width) (now (roster .entry)))
+        (map (stampOf (shape .size)) (leads (viewIn shape (now (s .entry))))) ⌝ }
 {
     let mut left = shape.leaders;
     let mut at = shape.from;

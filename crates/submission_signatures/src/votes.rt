@@ -5,13 +5,12 @@ ghost use Prim.Native.Nat.{_+_, _^_, _≤_, _<_};
 ghost use lib.ListN.{length};
 ghost use Rattle.words.specs.Widths.{widthMost};
 ghost use Rattle.refusal.specs.Checks.{every};
-ghost use Rattle.roster.specs.Roster.{cluster, replicas, rosterNumber};
-ghost use Rattle.log_chain.specs.Log as chain;
+ghost use Rattle.roster.specs.Roster.{replicas, rosterNumber};
 ghost use Rattle.submission.specs.Reading.{signersAt, ballotSize, certificateAt, certificateEnd};
-ghost use Rattle.submission.specs.Reading.{view};
-ghost use Rattle.submission.specs.Validate as paper;
 ghost use Rattle.submission_signatures.specs.Votes.{ballots};
 ghost use Rattle.submission_signatures.specs.Checked.{Checked};
+ghost use Rattle.submission_parts.specs.Shapes.{viewIn};
+ghost use Rattle.submission_signatures.specs.Genuine.{genuineIn};
 use submission::SIGNERS_SIZE;
 use submission::STATEMENT_MOST;
 use submission_parts::Shape;
@@ -25,7 +24,7 @@ fn votes_good_at(roster: &[u8], s: &[u8], width: usize, size: usize, at: usize) 
         × (signersAt (now s) (at + ballotSize width) < 2 ^ replicas (now roster))
         × (certificateEnd width size (now s) at ≤ length (now s)) ⌝ }
     ensures { λ r. ⌜ r
-        ≡ every (paper.genuine (chain.withTerms width (cluster (now (roster .entry)))) (now (roster .entry)))
+        ≡ every (genuineIn width (now (roster .entry)))
         (ballots size (certificateAt width (now (s .entry)) at)) ⌝ }
 {
     let end = at + submission::ballot_size(width);
@@ -50,9 +49,8 @@ fn votes_good_at(roster: &[u8], s: &[u8], width: usize, size: usize, at: usize) 
 pub fn votes_good(roster: &[u8], s: &[u8], shape: Shape) -> bool
     requires { ⌜ Checked (now roster) shape (now s) ⌝ }
     ensures { λ r. ⌜ r
-        ≡ every (paper.genuine (chain.withTerms (shape .width) (cluster (now (roster .entry))))
-        (now (roster .entry)))
-        (flatMap (ballots (shape .size)) (view (shape .width) (shape .size) (now (s .entry)) .leaders)) ⌝ }
+        ≡ every (genuineIn (shape .width) (now (roster .entry)))
+        (flatMap (ballots (shape .size)) (viewIn shape (now (s .entry)) .leaders)) ⌝ }
 {
     let mut left = shape.leaders;
     let mut at = shape.from;
