@@ -1,10 +1,10 @@
 -- Bytes written one part after the other to the start of a buffer: each part begins where the one before ends, and later bytes are kept.
 -- Assumes nothing.
-use mathlib.Core.Path.{_≡_, refl, sym, _∙_}
+use mathlib.Core.Path.{_≡_, refl, sym}
 use mathlib.Core.List.{List, [], _∷_, _++_}
 use Prim.Native.Nat.{ℕ, _+_, _≤_}
 use native.Mathlib.Omega.{arith}
-use lib.ListN.{length, take, drop, set, length-append}
+use lib.ListN.{length, take, set, length-append}
 use lib.Seq.{sets}
 use Rattle.words.specs.Over.{over}
 use Rattle.words.proofs.Laws.{sets-next}

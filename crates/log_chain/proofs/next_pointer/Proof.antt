@@ -1,13 +1,9 @@
 -- The chain string in two pieces, hashed one after the other.
 -- Assumes nothing.
-use mathlib.Core.Path.{_≡_, sym, ap, _∙_}
-use mathlib.Core.List.{List, _++_}
-use Prim.Native.Nat.{ℕ, _+_}
+use mathlib.Core.Path.{_≡_}
 use native.Mathlib.Omega.{arith}
 use borrow.Author.Needs.{needs}
-use lib.ListN.{length, take, length-take}
-use Rattle.sha256.specs.Sha256.{sha256, bytesOf}
-use Rattle.lm_hash.proofs.Values.{length-bytes}
+use lib.ListN.{length, length-take}
 use Rattle.log_chain.proofs.next_pointer.Statement.{statement}
 use Rattle.log_chain.proofs.next_pointer.Tie as tie
 

@@ -1,7 +1,7 @@
 -- Each number is read at its place.
 -- The needs are the bounds of each place that is read, and so are like those of any function that reads several.
 -- Assumes nothing.
-use mathlib.Core.Path.{_≡_, ap, _∙_}
+use mathlib.Core.Path.{ap, _∙_}
 use Prim.Native.Nat.{ℕ, _+_}
 use native.Mathlib.Omega.{arith}
 use borrow.Author.Needs.{needs}

@@ -3,11 +3,9 @@
 use mathlib.Core.Path.{_≡_, sym, ap, _∙_}
 use Prim.Native.Nat.{ℕ, suc, _+_, _-_, _*_, _^_, _≤_, _<_}
 use native.Mathlib.Numerals.{add-one}
-use native.Mathlib.Nat.{le-antisymm}
 use native.Mathlib.Omega.{arith}
 use borrow.Author.Needs.{needs}
 use lib.Dec.{lit<}
-use lib.ListN.{getD}
 use denote.Ref.{now}
 use Rattle.words.specs.BigEndian.{numberAt}
 use Rattle.words.proofs.Laws.{numberAt-zero, numberAt-more, number-step, number-room}

@@ -1,6 +1,5 @@
 -- The records have the bytes of the definition.
 -- Assumes nothing.
-use mathlib.Core.Path.{_≡_}
 use native.Mathlib.Omega.{arith}
 use borrow.Author.Needs.{needs}
 use Rattle.submission_parts.proofs.Inside.{records-le}

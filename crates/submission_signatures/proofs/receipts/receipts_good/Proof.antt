@@ -3,7 +3,6 @@
 use mathlib.Core.Path.{_≡_, sym, ap, ap₂, _∙_}
 use mathlib.Core.List.{List}
 use Prim.Native.Nat.{ℕ, _+_, _≤_}
-use native.Mathlib.Nat.{le-trans, mul-le-mul-left}
 use native.Mathlib.Omega.{arith}
 use borrow.Author.Needs.{needs}
 use lib.ListN.{length, take, drop, length-take}
@@ -12,7 +11,7 @@ use Rattle.sha256.specs.Sha256.{bytesOf}
 use Rattle.roster.specs.Roster.{cluster}
 use Rattle.roster.specs.Masks.{replicasOf}
 use Rattle.log_chain.specs.Log.{lastTerm}
-use Rattle.log_chain.specs.Records.{recordSize, recordsOf}
+use Rattle.log_chain.specs.Records.{recordsOf}
 use Rattle.log_chain.specs.Sizes.{placeStatement}
 use Rattle.submission.specs.Reading.{signersAt, commitEnd}
 use Rattle.submission_slots.specs.Signatures.{goodAll}
