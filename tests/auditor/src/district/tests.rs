@@ -3,6 +3,7 @@
 
 use super::*;
 use crate::audit::{compare, findings, Findings};
+use crate::cluster::Keys;
 use crate::submission::Submission;
 use crate::verdicts::Verdicts;
 
@@ -29,23 +30,23 @@ impl Tally {
 }
 
 /// With signatures, through the whole audit.
-
 #[test]
 fn districts() {
     let mut random = Random::new(20);
     let mut verdicts = Verdicts::default();
     let mut tally = Tally::default();
+    let keys = Keys::new("districts");
     for n in [3, 4, 5] {
-        let cluster = Cluster::new("districts", n, 5);
-        let roster = cluster.roster();
         for round in 0..12 {
             let district = District::simulate(n, round % (n + 1), &mut random);
+            let cluster = keys.cluster_with(n, district.leaves());
+            let (roster, signer) = (cluster.roster(), district.signer(&cluster));
             let claims = district.claims(&mut random);
             for _ in 0..3 {
                 let Some(two) = two_of(&claims, &mut random) else {
                     break;
                 };
-                let [a, b] = [two.0, two.1].map(|claim| claim.draft(&cluster).bytes());
+                let [a, b] = [two.0, two.1].map(|claim| claim.draft(&signer).bytes());
                 let found = findings(&roster, &a, &b, &mut verdicts);
                 tally.count(&district, two, &found);
             }

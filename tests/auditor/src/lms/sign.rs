@@ -1,5 +1,6 @@
 //! LMS keys and signatures (RFC 8554) to be checked: made from seeds, for tests only.
 
+pub mod chains;
 pub mod few;
 
 use super::{inner_value, leaf_value, Leaf, OneTimeType, TreeType};
@@ -40,18 +41,6 @@ impl OneTime {
             signature.extend(self.leaf.chain(i, 0, digit, self.secret(i)));
         }
         signature
-    }
-
-    /// Every value of every chain, from the first to the end.
-    fn chains(&self) -> Vec<Vec<Digest>> {
-        let chain = |i: usize| {
-            let mut values = vec![self.secret(i)];
-            for j in 0..self.kind.largest_digit() {
-                values.push(self.leaf.chain(i, j, j + 1, values[j as usize]));
-            }
-            values
-        };
-        (0..self.kind.p).map(chain).collect()
     }
 
     /// The sum in the checksum of the message's hash, to choose C by.

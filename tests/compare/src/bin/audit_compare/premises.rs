@@ -3,7 +3,7 @@
 //! of their own in the pair.
 
 use crate::stop;
-use auditor::build::Cluster;
+use auditor::cluster::Keys;
 use auditor::district::premises::Past;
 use auditor::district::{two_of, District};
 use auditor::random::Random;
@@ -19,10 +19,8 @@ pub fn hold() {
     let (mut pairs, mut replicas, mut signatures) = (0, 0, 0);
     let mut random = Random::new(4);
     let mut verdicts = Verdicts::default();
+    let keys = Keys::new("premises");
     for n in [3, 4, 5] {
-        let cluster = Cluster::new("premises", n, 5);
-        let bytes = cluster.roster();
-        let roster = Roster::read(&bytes).unwrap_or_else(|_| stop("premises: no roster"));
         let mut forks = 0;
         while forks < FORKS {
             let cheats = 1 + random.below(n - 1);
@@ -31,7 +29,11 @@ pub fn hold() {
             let Some((a, b)) = two_of(&claims, &mut random) else {
                 continue;
             };
-            let [first, second] = [a, b].map(|claim| claim.draft(&cluster).bytes());
+            let cluster = keys.cluster_with(n, district.leaves());
+            let signer = district.signer(&cluster);
+            let bytes = cluster.roster();
+            let roster = Roster::read(&bytes).unwrap_or_else(|_| stop("premises: no roster"));
+            let [first, second] = [a, b].map(|claim| claim.draft(&signer).bytes());
             let Ok(found) = hirelog::audit(&bytes, &first, &second) else {
                 stop("premises: a pair is refused");
             };
