@@ -11,7 +11,7 @@
 //!   replica has a leaf of its own (`leaves`);
 //! - `district`: replicas that act by the board rules, and cheats, with what they can submit;
 //!   `district::acts`: worked examples of those rules, the file that replica_acts prints;
-//! - `cases`: the inputs of audit_compare; `samples`: the files that make_cases writes.
+//! - `cases`: the audits that tests/compare compares; `samples`: the files that make_cases writes.
 
 pub mod audit;
 pub mod build;

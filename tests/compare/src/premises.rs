@@ -2,7 +2,6 @@
 //! names somebody, and beside whoever is named replicas that meet every premise, with signatures
 //! of their own in the pair.
 
-use crate::stop;
 use auditor::cluster::Keys;
 use auditor::district::premises::Past;
 use auditor::district::{two_of, District};
@@ -14,8 +13,8 @@ use auditor::verdicts::Verdicts;
 /// How many pairs that fork are looked for, for each number of replicas.
 const FORKS: usize = 8;
 
-/// Stops if a replica does not meet a premise, or is named.
-pub fn hold() {
+/// What was found; or, as an error, which replica or pair does not meet them.
+pub fn hold() -> Result<String, &'static str> {
     let (mut pairs, mut replicas, mut signatures) = (0, 0, 0);
     let mut random = Random::new(4);
     let mut verdicts = Verdicts::default();
@@ -32,32 +31,33 @@ pub fn hold() {
             let cluster = keys.cluster_with(n, district.leaves());
             let signer = district.signer(&cluster);
             let bytes = cluster.roster();
-            let roster = Roster::read(&bytes).unwrap_or_else(|_| stop("premises: no roster"));
+            let roster = Roster::read(&bytes).map_err(|_| "no roster")?;
             let [first, second] = [a, b].map(|claim| claim.draft(&signer).bytes());
             let Ok(found) = hirelog::audit(&bytes, &first, &second) else {
-                stop("premises: a pair is refused");
+                return Err("a pair is refused");
             };
             if found.fork.is_none() {
                 continue;
             }
             if found.charges.iter().all(Option::is_none) {
-                stop("premises: a fork, and nobody is named");
+                return Err("a fork, and nobody is named");
             }
-            let [first, second] = [first, second].map(|bytes| {
-                Submission::read(&roster, &bytes, &mut verdicts)
-                    .unwrap_or_else(|_| stop("premises: a submission is refused"))
-            });
+            let mut read = |bytes| {
+                let read = Submission::read(&roster, bytes, &mut verdicts);
+                read.map_err(|_| "a submission is refused")
+            };
+            let (first, second) = (read(&first)?, read(&second)?);
             let two = [&first, &second];
             for k in replicas_of(district.honest) {
                 let Some(past) = Past::of(district.acts(k), n, &roster.name) else {
-                    stop("premises: an honest replica's acts break a rule");
+                    return Err("an honest replica's acts break a rule");
                 };
                 let own = past.own_signatures(roster.key(k), &roster.name, two, &mut verdicts);
                 let Some(own) = own.filter(|_| past.strings_apart(two)) else {
-                    stop("premises: an honest replica does not meet them");
+                    return Err("an honest replica does not meet them");
                 };
                 if found.charges[k as usize - 1].is_some() {
-                    stop("premises: a replica meets them, and is named");
+                    return Err("a replica meets them, and is named");
                 }
                 replicas += usize::from(own > 0);
                 signatures += own;
@@ -66,11 +66,12 @@ pub fn hold() {
         }
         pairs += forks;
     }
-    println!(
-        "audit_compare: {pairs} pairs fork and name somebody; in them {replicas} replicas with \
+    let found = format!(
+        "{pairs} pairs fork and name somebody; in them {replicas} replicas with \
          {signatures} signatures of their own meet every premise of fairness, and none is named"
     );
     if replicas < pairs / 2 {
-        stop("premises: too few replicas meet them: look at src/district.rs");
+        return Err("too few replicas meet them: look at src/district.rs");
     }
+    Ok(found)
 }
