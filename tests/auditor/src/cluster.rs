@@ -15,7 +15,10 @@ const LOW_LEAVES: u32 = 32;
 
 /// How many leaves are real, if nobody asks for more: a replica signs no more messages in a pair of
 /// four terms each.
-const FEW_LEAVES: u32 = 20;
+pub const FEW_LEAVES: u32 = 20;
+
+/// How many of a taller tree are real then: enough for the cases with one submission.
+const FEW_TALL_LEAVES: u32 = 10;
 
 /// Where a taller tree's real leaves may begin, in steps of a low tree's leaves.
 const PLACES: u8 = 32;
@@ -43,12 +46,13 @@ impl Keys {
     pub fn cluster(&self, n: usize, tree: u32) -> Rc<Cluster> {
         let tree = tree_type(tree).expect("a tree type is 5 to 9");
         self.make(n, tree, |k| match (tree.h, k) {
-            (5, _) | (_, 1) => 0..FEW_LEAVES,
-            (_, 2) => (1 << tree.h) - LOW_LEAVES..(1 << tree.h) - LOW_LEAVES + FEW_LEAVES,
+            (5, _) => 0..FEW_LEAVES,
+            (_, 1) => 0..FEW_TALL_LEAVES,
+            (_, 2) => (1 << tree.h) - LOW_LEAVES..(1 << tree.h) - LOW_LEAVES + FEW_TALL_LEAVES,
             _ => {
                 let place = seeded(&self.label, "leaf", &[k as u8])[0] % PLACES;
                 let first = u32::from(place) * LOW_LEAVES;
-                first..first + FEW_LEAVES
+                first..first + FEW_TALL_LEAVES
             }
         })
     }
@@ -85,12 +89,15 @@ fn sixteen(digest: Digest) -> [u8; 16] {
     digest[..16].try_into().expect("sixteen bytes")
 }
 
+/// A replica, a leaf and a message.
+type Signing = (u16, u32, Vec<u8>);
+
 /// Replicas with their private keys.
 pub struct Cluster {
     pub name: Name,
     keys: Vec<FewLeaves>,
-    /// Signatures made before, by replica, leaf and message.
-    made: RefCell<HashMap<(u16, u32, Vec<u8>), Vec<u8>>>,
+    /// Signatures made before.
+    made: RefCell<HashMap<Signing, Vec<u8>>>,
 }
 
 impl Cluster {

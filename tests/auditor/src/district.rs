@@ -13,6 +13,7 @@ use crate::roster::{mask_of, quorum, replicas_of};
 use crate::sha256::sha256;
 use crate::signer::Signer;
 use crate::statement::{pointers, Position, Record, Vote};
+use crate::submission::Submission;
 pub use replica::Act;
 use replica::{Cheats, Replica};
 use signed::Signed;
@@ -28,6 +29,14 @@ pub struct Claim {
 }
 
 impl Claim {
+    /// The submission, as it is accepted, without signatures.
+    pub fn unsigned(&self) -> Submission {
+        let Claim { records, leaders, commit } = self;
+        let Draft { records, leaders, stamps, commit, .. } =
+            Draft::unsigned([0; 16], records, leaders, *commit);
+        Submission { records, leaders, stamps, commit }
+    }
+
     pub fn draft(&self, signer: &Signer) -> Draft {
         signer.submission(&self.records, &self.leaders, self.commit)
     }

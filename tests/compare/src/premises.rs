@@ -2,6 +2,7 @@
 //! names somebody, and beside whoever is named replicas that meet every premise, with signatures
 //! of their own in the pair.
 
+use auditor::audit::compare;
 use auditor::cluster::Keys;
 use auditor::district::premises::Past;
 use auditor::district::{two_of, District};
@@ -28,6 +29,9 @@ pub fn hold() -> Result<String, &'static str> {
             let Some((a, b)) = two_of(&claims, &mut random) else {
                 continue;
             };
+            if compare(&a.unsigned(), &b.unsigned()).fork == 0 {
+                continue;
+            }
             let cluster = keys.cluster_with(n, district.leaves());
             let signer = district.signer(&cluster);
             let bytes = cluster.roster();
@@ -37,7 +41,7 @@ pub fn hold() -> Result<String, &'static str> {
                 return Err("a pair is refused");
             };
             if found.fork.is_none() {
-                continue;
+                return Err("the auditor finds a fork, and the library none");
             }
             if found.charges.iter().all(Option::is_none) {
                 return Err("a fork, and nobody is named");

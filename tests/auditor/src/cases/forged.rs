@@ -3,7 +3,7 @@
 use super::{small, whole, Cases};
 use crate::build::Draft;
 use crate::cluster::Cluster;
-use crate::roster::replicas_of;
+use crate::roster::{replicas_of, Name};
 use crate::signer::Signer;
 use crate::statement::{self, pointers, Position};
 
@@ -14,6 +14,9 @@ enum Slot {
     Stamp(usize),
     Receipt(usize),
 }
+
+/// Writes a stamp or a receipt.
+type Statement = fn(&Name, &Position) -> Vec<u8>;
 
 impl Cases<'_> {
     pub fn forged(&mut self) {
@@ -81,7 +84,7 @@ impl Cases<'_> {
         let mut name = signer.name;
         name[15] ^= 1;
         for (slot, index) in [(Slot::Stamp(0), 2), (Slot::Stamp(1), 3), (Slot::Receipt(0), 2)] {
-            let (replica, of): (u16, fn(&[u8; 16], &Position) -> Vec<u8>) = match slot {
+            let (replica, of): (u16, Statement) = match slot {
                 Slot::Stamp(i) => (draft.leaders[i].vote.candidate, statement::stamp),
                 _ => (1, statement::receipt),
             };

@@ -3,6 +3,7 @@
 
 use super::{Cases, Expect};
 use crate::build::Draft;
+use crate::cluster::FEW_LEAVES;
 use crate::district::{two_of, District};
 use crate::roster::{mask_of, replicas_of};
 use crate::sha256::sha256;
@@ -52,7 +53,7 @@ impl Cases<'_> {
     /// Short logs of few terms and payloads, any leaders, any signers, any commit.
     pub fn loose_pairs(&mut self) {
         for (n, tree, count) in LOOSE_PAIRS {
-            let cluster = self.cluster(n, tree);
+            let cluster = self.keys.cluster_from_0(n, tree, FEW_LEAVES);
             let roster = cluster.roster();
             for pair in 0..self.count(count) {
                 let signer = Signer::new(&cluster);

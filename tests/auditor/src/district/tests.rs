@@ -4,7 +4,6 @@
 use super::*;
 use crate::audit::{compare, findings, Findings};
 use crate::cluster::Keys;
-use crate::submission::Submission;
 use crate::verdicts::Verdicts;
 
 /// How many pairs and forks there were, and how many charges by each rule.
@@ -71,7 +70,7 @@ fn many_districts() {
                 let Some(two) = two_of(&claims, &mut random) else {
                     break;
                 };
-                tally.count(&district, two, &compare(&unsigned(two.0), &unsigned(two.1)));
+                tally.count(&district, two, &compare(&two.0.unsigned(), &two.1.unsigned()));
             }
         }
         println!("n = {n}: {tally:?}");
@@ -92,7 +91,7 @@ fn honest_districts() {
         let claims = district.claims(&mut random);
         for a in &claims {
             for b in &claims {
-                let found = compare(&unsigned(a), &unsigned(b));
+                let found = compare(&a.unsigned(), &b.unsigned());
                 assert_eq!((found.fork, found.named()), (0, 0), "{a:?} {b:?}");
                 pairs += 1;
             }
@@ -100,11 +99,4 @@ fn honest_districts() {
     }
     println!("{pairs} pairs");
     assert!(pairs >= 5000);
-}
-
-fn unsigned(claim: &Claim) -> Submission {
-    let Claim { records, leaders, commit } = claim;
-    let Draft { records, leaders, stamps, commit, .. } =
-        Draft::unsigned([0; 16], records, leaders, *commit);
-    Submission { records, leaders, stamps, commit }
 }

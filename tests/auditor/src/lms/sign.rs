@@ -128,7 +128,7 @@ fn key(kind: &OneTimeType, tree: &TreeType, identifier: &[u8; 16], root: &Digest
 /// RFC 8554, 5.4: q, the one-time signature, the tree type and the path.
 fn join(q: u32, one_time_signature: &[u8], tree: &TreeType, path: &[Digest]) -> Vec<u8> {
     let (q, code) = (q.to_be_bytes(), tree.code.to_be_bytes());
-    [&q[..], one_time_signature, &code, path.as_flattened()].concat()
+    [&q[..], one_time_signature, &code, &path.concat()].concat()
 }
 
 #[cfg(test)]

@@ -1,5 +1,5 @@
-//! The one-time keys of one LMS key, each made when it is first asked for. Every sixteenth value of
-//! its chains is kept, so that a signature costs few steps.
+//! The one-time keys of one LMS key, each made when it is first asked for. Every eighth value of its
+//! chains is kept, so that a signature costs few steps.
 
 use super::{Leaf, OneTime, OneTimeType};
 use crate::sha256::{sha256, Digest};
@@ -8,7 +8,7 @@ use std::collections::HashMap;
 use std::rc::Rc;
 
 /// The steps from one kept value to the next.
-const STRIDE: u32 = 16;
+const STRIDE: u32 = 8;
 
 /// One-time keys of one type, I and seed; trees of any height may stand on them.
 pub struct OneTimeKeys {
@@ -22,7 +22,7 @@ pub struct OneTimeKeys {
 struct Chains {
     /// K.
     public: Digest,
-    /// Of each chain the values at 0, 16, 32 ..
+    /// Of each chain the values at 0, 8, 16 ..
     kept: Vec<Vec<Digest>>,
 }
 
