@@ -32,9 +32,9 @@ struct pair {
 
 typedef int work_function(const struct pair *pair); /* whether all was good */
 
-static _Noreturn void stop(const char *why, const char *where)
+static _Noreturn void stop(const char *why, const char *what)
 {
-    fprintf(stderr, "audit_bench: %s%s\n", why, where);
+    fprintf(stderr, "audit_bench: %s%s\n", why, what);
     exit(1);
 }
 

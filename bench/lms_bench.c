@@ -33,9 +33,9 @@ static struct lms_vector measured;
 static uint8_t *long_message; /* as many blocks as measured takes, with the padding */
 static size_t long_message_len;
 
-static _Noreturn void stop(const char *why, const char *where)
+static _Noreturn void stop(const char *why, const char *what)
 {
-    fprintf(stderr, "lms_bench: %s%s\n", why, where);
+    fprintf(stderr, "lms_bench: %s%s\n", why, what);
     exit(1);
 }
 

@@ -8,7 +8,7 @@
  *                                                    one
  *
  * Printed are the number, the report's buffer in hex, and the lines of document 01's program. The
- * folder is one that make_cases writes, or audit_compare where the library fails; if it has a file
+ * folder is one that make_cases writes, or compare where the library fails; if it has a file
  * report, the report must begin with those bytes.
  *
  * The audit is called several times, and each call must give the same. In the first an unreadable
@@ -115,7 +115,7 @@ static void check_report(const struct answer *answer)
 
 /*
  * The report must begin with the bytes of the folder's file. What the audit does not write has been
- * looked at: there the file has what audit_compare filled its buffer with.
+ * looked at: there the file has what compare filled its buffer with.
  */
 static void check_expected(const struct answer *answer)
 {

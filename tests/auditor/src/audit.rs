@@ -1,5 +1,6 @@
 //! Document 01, The report: the fork, the charges by rules 1 to 4, and the report's bytes.
 
+use crate::bytes::{u16_at, u32_at};
 use crate::numbers::{
     ACCEPTED, SHORT_REPORT, STALE_VOTE, STALE_VOTE_EXCHANGED, TWO_STAMPS, TWO_VOTES,
 };
@@ -49,6 +50,17 @@ impl Findings {
             bytes.extend(term.to_be_bytes());
         }
         bytes
+    }
+
+    /// What a report's first 53 bytes say.
+    pub fn read(report: &[u8]) -> Findings {
+        let mut rows = [None; MOST];
+        for (k, row) in rows.iter_mut().enumerate() {
+            let at = 8 + 5 * k;
+            let named = u16_at(report, 6) >> k & 1 == 1;
+            *row = named.then(|| Charge { rule: report[at], term: u32_at(report, at + 1) });
+        }
+        Findings { number: report[0], place: report[1], fork: u32_at(report, 2), rows }
     }
 
     /// The lines that the program prints.
@@ -206,6 +218,7 @@ mod tests {
         expected.extend([0; 35]);
         expected.extend([14, 15, 16, 17, 18]);
         assert_eq!(findings.bytes(), expected);
+        assert_eq!(Findings::read(&expected), findings);
         assert_eq!(expected.len(), REPORT_SIZE);
     }
 }

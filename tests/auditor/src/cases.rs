@@ -20,9 +20,11 @@ mod terms;
 pub mod worked_examples;
 
 use crate::audit::{Findings, REPORT_SIZE};
-use crate::build::{log, Cluster, Draft};
+use crate::build::{log, Draft};
+use crate::cluster::{Cluster, Keys};
 use crate::random::Random;
 use crate::roster::mask_of;
+use crate::signer::Signer;
 use std::collections::BTreeMap;
 use std::rc::Rc;
 
@@ -90,7 +92,7 @@ pub enum Size {
 /// Every kind of case from this seed, each handed to `take`.
 pub fn run(seed: u64, size: Size, take: &mut dyn FnMut(&Case)) {
     let mut cases = Cases {
-        label: format!("cases {seed}"),
+        keys: Keys::new(&format!("cases {seed}")),
         random: Random::new(seed),
         size,
         take,
@@ -120,7 +122,7 @@ pub fn run(seed: u64, size: Size, take: &mut dyn FnMut(&Case)) {
 
 /// Where cases come from and where they go.
 struct Cases<'a> {
-    label: String,
+    keys: Keys,
     random: Random,
     size: Size,
     take: &'a mut dyn FnMut(&Case),
@@ -147,9 +149,12 @@ impl Cases<'_> {
 
     /// The cluster of n replicas with this tree type.
     fn cluster(&mut self, n: usize, tree: u32) -> Rc<Cluster> {
-        let label = &self.label;
-        let made = || Rc::new(Cluster::new(label, n, tree));
-        self.clusters.entry((n, tree)).or_insert_with(made).clone()
+        self.clusters.entry((n, tree)).or_insert_with(|| self.keys.cluster(n, tree)).clone()
+    }
+
+    /// The same cluster, for one case in which no leaf is taken yet.
+    fn signer(&mut self, n: usize, tree: u32) -> Signer {
+        Signer::new(&self.cluster(n, tree))
     }
 
     /// One case with a report of 53 bytes.
@@ -190,21 +195,23 @@ impl Cases<'_> {
 
 /// A submission of 44 bytes.
 pub fn empty(cluster: &Cluster) -> Draft {
-    cluster.submission(&[], &[], None)
+    let mut draft = Draft::unsigned(cluster.name, &[], &[], None);
+    draft.lay_out();
+    draft
 }
 
 /// One record, its leader and its stamp.
-pub fn small(cluster: &Cluster) -> Draft {
-    cluster.submission(&log(&[(1, "a")]), &[(1, cluster.first_quorum())], None)
+pub fn small(signer: &Signer) -> Draft {
+    signer.submission(&log(&[(1, "a")]), &[(1, signer.first_quorum())], None)
 }
 
 /// Two terms and a commit on a record before the last.
-pub fn whole(cluster: &Cluster) -> Draft {
+pub fn whole(signer: &Signer) -> Draft {
     let records = log(&[(1, "a"), (1, "b"), (3, "c")]);
-    let q = cluster.first_quorum();
-    let other = mask_of(&[cluster.n() as u16]) | (q >> 1);
-    let last = cluster.n() as u16;
-    cluster.submission(&records, &[(1, q), (last, other)], Some((2, q)))
+    let q = signer.first_quorum();
+    let other = mask_of(&[signer.n() as u16]) | (q >> 1);
+    let last = signer.n() as u16;
+    signer.submission(&records, &[(1, q), (last, other)], Some((2, q)))
 }
 
 #[cfg(test)]

@@ -6,14 +6,18 @@ pub mod premises;
 mod replica;
 mod signed;
 
-use crate::build::{Cluster, Draft};
+use crate::build::Draft;
+use crate::cluster::Cluster;
 use crate::random::Random;
 use crate::roster::{mask_of, quorum, replicas_of};
 use crate::sha256::sha256;
+use crate::signer::Signer;
 use crate::statement::{pointers, Position, Record, Vote};
+use crate::submission::Submission;
 pub use replica::Act;
 use replica::{Cheats, Replica};
 use signed::Signed;
+use std::rc::Rc;
 
 /// What a submission is made of: a log, each term's candidate and signers, and a commit's index
 /// and signers.
@@ -25,8 +29,16 @@ pub struct Claim {
 }
 
 impl Claim {
-    pub fn draft(&self, cluster: &Cluster) -> Draft {
-        cluster.submission(&self.records, &self.leaders, self.commit)
+    /// The submission, as it is accepted, without signatures.
+    pub fn unsigned(&self) -> Submission {
+        let Claim { records, leaders, commit } = self;
+        let Draft { records, leaders, stamps, commit, .. } =
+            Draft::unsigned([0; 16], records, leaders, *commit);
+        Submission { records, leaders, stamps, commit }
+    }
+
+    pub fn draft(&self, signer: &Signer) -> Draft {
+        signer.submission(&self.records, &self.leaders, self.commit)
     }
 }
 
@@ -237,14 +249,14 @@ impl District {
         }
     }
 
-    /// A replica comes to the other side, or raises its term.
+    /// A replica comes to the other side, raises its term, or restarts.
     fn wander(&mut self, random: &mut Random) {
-        let life = random.below(self.lives.len());
-        if random.below(3) == 0 {
-            let replica = &mut self.lives[life].replica;
-            replica.raise(replica.term + 1);
-        } else {
-            self.lives[life].side = 1 - self.lives[life].side;
+        let chosen = random.below(self.lives.len());
+        let life = &mut self.lives[chosen];
+        match random.below(4) {
+            0 => drop(life.replica.raise(life.replica.term + 1)),
+            1 => life.replica.restart(),
+            _ => life.side = 1 - life.side,
         }
     }
 
@@ -257,6 +269,18 @@ impl District {
     /// What an honest replica has done, in its order.
     pub fn acts(&self, replica: u16) -> &[Act] {
         &self.lives[replica as usize - 1].replica.acts
+    }
+
+    /// How many leaves the replica with the most has used.
+    pub fn leaves(&self) -> u32 {
+        (1..=self.n as u16).map(|k| self.signed.leaves(k).count()).max().unwrap_or(0)
+    }
+
+    /// Signs for the district's claims, each statement with the leaf that its replica signed it by.
+    /// The cluster's keys have to have as many leaves from 0 on.
+    pub fn signer(&self, cluster: &Rc<Cluster>) -> Signer {
+        let written = |k| self.signed.leaves(k).map(|statement| statement.bytes(&cluster.name));
+        Signer::after(cluster, (1..=self.n as u16).map(written).collect())
     }
 
     /// A claim for each log that can be submitted, with chosen signers and a chosen commit.

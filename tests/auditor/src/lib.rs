@@ -6,17 +6,21 @@
 //!   its report and the lines that the program prints.
 //!
 //! What makes inputs for both sides:
-//! - `lms::sign`, `build`: keys, rosters and submissions, right or with any field wrong;
+//! - `lms::sign`, `cluster`: keys and rosters;
+//! - `signer`, `build`: submissions, right or with any field wrong, in which each message of a
+//!   replica has a leaf of its own (`leaves`);
 //! - `district`: replicas that act by the board rules, and cheats, with what they can submit;
 //!   `district::acts`: worked examples of those rules, the file that replica_acts prints;
-//! - `cases`: the inputs of audit_compare; `samples`: the files that make_cases writes.
+//! - `cases`: the audits that tests/compare compares; `samples`: the files that make_cases writes.
 
 pub mod audit;
 pub mod build;
 pub mod bytes;
 pub mod cases;
+pub mod cluster;
 pub mod district;
 pub mod hex;
+pub mod leaves;
 pub mod lms;
 pub mod numbers;
 pub mod program;
@@ -24,6 +28,7 @@ pub mod random;
 pub mod roster;
 pub mod samples;
 pub mod sha256;
+pub mod signer;
 pub mod statement;
 pub mod submission;
 pub mod verdicts;

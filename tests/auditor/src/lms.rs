@@ -2,7 +2,7 @@
 
 pub mod sign;
 
-use crate::sha256::{sha256, Digest};
+use crate::sha256::{sha256, sha256_of_one_block, Digest, ONE_BLOCK};
 
 /// A longer message is neither good nor bad (document 01, Digest and signature).
 pub const MESSAGE_LIMIT: usize = 16_777_216;
@@ -214,9 +214,15 @@ impl Leaf {
 
     /// RFC 8554, 4.3, 4.5 and 4.6, inner loop: chain i from its value at `from` to that at `to`.
     fn chain(&self, i: usize, from: u32, to: u32, mut value: Digest) -> Digest {
-        let (q, i) = (self.q.to_be_bytes(), (i as u16).to_be_bytes());
+        // I, q, i, j and the value.
+        let mut bytes = [0; ONE_BLOCK];
+        bytes[..16].copy_from_slice(&self.identifier);
+        bytes[16..20].copy_from_slice(&self.q.to_be_bytes());
+        bytes[20..22].copy_from_slice(&(i as u16).to_be_bytes());
         for j in from..to {
-            value = sha256(&[&self.identifier, &q, &i, &[j as u8], &value]);
+            bytes[22] = j as u8;
+            bytes[23..].copy_from_slice(&value);
+            value = sha256_of_one_block(&bytes);
         }
         value
     }

@@ -31,14 +31,15 @@ fn held(file: Option<&[u8]>, buffer: usize) -> &[u8] {
 #[cfg(test)]
 mod tests {
     use super::*;
-    use crate::build::Cluster;
+    use crate::cases::empty;
+    use crate::cluster::Keys;
 
     /// Missing files are empty, each at its place; those before it are validated first.
     #[test]
     fn missing_files() {
         let mut verdicts = Verdicts::default();
-        let cluster = Cluster::new("program", 3, 5);
-        let (roster, empty) = (cluster.roster(), cluster.submission(&[], &[], None).bytes());
+        let cluster = Keys::new("program").cluster_from_0(3, 5, 1);
+        let (roster, empty) = (cluster.roster(), empty(&cluster).bytes());
         let (roster, empty) = (Some(&roster[..]), Some(&empty[..]));
         let mut printed = |roster, first, second| lines(roster, first, second, &mut verdicts);
         assert_eq!(printed(roster, empty, empty), "refusal 0 in 0\nfork 0\n");
@@ -54,8 +55,8 @@ mod tests {
     #[test]
     fn large_files() {
         let mut verdicts = Verdicts::default();
-        let cluster = Cluster::new("program", 3, 5);
-        let (roster, empty) = (cluster.roster(), cluster.submission(&[], &[], None).bytes());
+        let cluster = Keys::new("program").cluster_from_0(3, 5, 1);
+        let (roster, empty) = (cluster.roster(), empty(&cluster).bytes());
         let mut printed =
             |r: &[u8], a: &[u8], b: &[u8]| lines(Some(r), Some(a), Some(b), &mut verdicts);
         let mut fills = vec![0; SUBMISSION_BUFFER - 44];

@@ -1,14 +1,17 @@
 //! Sample files: the smallest submission for each number, and pairs with the lines that `audit`
 //! prints for them. All of them follow from fixed labels, so they are always the same.
 
-use crate::build::{log, Cluster, Draft};
-use crate::cases::accepted::{large, largest};
+use crate::build::{log, Draft};
+use crate::cases::accepted::{large, largest, LARGEST_LEAVES, LARGE_LEAVES};
 use crate::cases::worked_examples::{one_leader, stale_leader};
 use crate::cases::{empty, small, whole};
+use crate::cluster::{Cluster, Keys};
 use crate::roster::mask_of;
 use crate::sha256::sha256;
+use crate::signer::Signer;
 use crate::statement::Record;
 use crate::submission::CommitCertificate;
+use std::rc::Rc;
 
 /// A roster and two submissions.
 pub struct Pair {
@@ -19,22 +22,27 @@ pub struct Pair {
 }
 
 /// The cluster of the small samples: three replicas, trees of height 5.
-pub fn cluster() -> Cluster {
-    Cluster::new("samples", 3, 5)
+pub fn cluster() -> Rc<Cluster> {
+    Keys::new("samples").cluster_with(3, 12)
+}
+
+/// The keys of the large ones, which have nine.
+pub fn large_keys() -> Keys {
+    Keys::new("large sample")
 }
 
 /// One submission for each number that a submission can get, with that number.
-pub fn submissions(cluster: &Cluster) -> Vec<(String, u8, Vec<u8>)> {
+pub fn submissions(cluster: &Rc<Cluster>) -> Vec<(String, u8, Vec<u8>)> {
     let mut samples = Vec::new();
     for number in [0].into_iter().chain(5..=15) {
         samples.push((format!("n{number:02}"), number, smallest(cluster, number)));
     }
-    samples.push(("whole".into(), 0, whole(cluster).bytes()));
+    samples.push(("whole".into(), 0, whole(&Signer::new(cluster)).bytes()));
     samples
 }
 
 /// The smallest submission that gets the number; for 5, the longest of those that are too short.
-fn smallest(cluster: &Cluster, number: u8) -> Vec<u8> {
+fn smallest(cluster: &Rc<Cluster>, number: u8) -> Vec<u8> {
     let mut draft = empty(cluster);
     match number {
         0 => (),
@@ -55,7 +63,7 @@ fn smallest(cluster: &Cluster, number: u8) -> Vec<u8> {
             draft.lay_out();
         }
         13 => {
-            draft = small(cluster);
+            draft = small(&Signer::new(cluster));
             draft.leaders[0].vote.candidate = 0;
         }
         14 => {
@@ -63,7 +71,7 @@ fn smallest(cluster: &Cluster, number: u8) -> Vec<u8> {
             set_commit(cluster, &mut draft, 1, quorum);
         }
         15 => {
-            draft = small(cluster);
+            draft = small(&Signer::new(cluster));
             draft.stamps[0][0] ^= 1;
         }
         _ => panic!("no submission gets number {number}: ask for 0 or 5 to 15"),
@@ -84,33 +92,33 @@ fn pair(folder: &'static str, cluster: &Cluster, (first, second): (Draft, Draft)
 
 /// What stands in the folder samples: document 01's worked pairs, and one that all but fills the
 /// buffers of the program.
-pub fn samples(cluster: &Cluster) -> Vec<Pair> {
-    let nine = Cluster::new("large sample", 9, 5);
+pub fn samples(cluster: &Rc<Cluster>, keys: &Keys) -> Vec<Pair> {
+    let nine = keys.cluster(9, 5);
     vec![
         pair("empty", cluster, (empty(cluster), empty(cluster))),
-        pair("one_leader", cluster, one_leader(cluster)),
-        pair("stale_leader", cluster, stale_leader(cluster)),
-        pair("large", &nine, filling(&nine)),
+        pair("one_leader", cluster, one_leader(&Signer::new(cluster))),
+        pair("stale_leader", cluster, stale_leader(&Signer::new(cluster))),
+        pair("large", &nine, filling(&Signer::new(&nine))),
     ]
 }
 
 /// More pairs, that are tested and measured: one with its submissions exchanged, and two too large
 /// for the program.
-pub fn more_pairs(cluster: &Cluster) -> Vec<Pair> {
-    let (first, second) = stale_leader(cluster);
-    let nine = Cluster::new("large sample", 9, 5);
-    let tall = Cluster::new("largest sample", 9, 9);
+pub fn more_pairs(cluster: &Rc<Cluster>, keys: &Keys) -> Vec<Pair> {
+    let (first, second) = stale_leader(&Signer::new(cluster));
+    let many = keys.cluster_with(9, LARGE_LEAVES);
+    let tall = keys.cluster_from_0(9, 9, LARGEST_LEAVES);
     vec![
         pair("stale_leader_exchanged", cluster, (second, first)),
-        pair("most_terms", &nine, large(&nine)),
-        pair("largest", &tall, (largest(&tall), empty(&tall))),
+        pair("most_terms", &many, large(&Signer::new(&many))),
+        pair("largest", &tall, (largest(&Signer::new(&tall)), empty(&tall))),
     ]
 }
 
 /// n = 9, two terms, 182 records. The logs part at index 60: replica 1 stamps both in term 4,
 /// and replicas 5 to 7 give receipts in term 5 and then elect, in term 7, a leader without those
 /// records.
-fn filling(cluster: &Cluster) -> (Draft, Draft) {
+fn filling(signer: &Signer) -> (Draft, Draft) {
     let made = |last_term, parted: &[u8]| -> Vec<Record> {
         let record = |i: u8| Record {
             term: if i <= 100 { 4 } else { last_term },
@@ -120,10 +128,10 @@ fn filling(cluster: &Cluster) -> (Draft, Draft) {
     };
     let signers = |first: u16| mask_of(&(first..first + 5).collect::<Vec<_>>());
     let first = [(1, signers(1)), (2, signers(2))];
-    let first = cluster.submission(&made(5, b"a"), &first, Some((182, signers(3))));
+    let first = signer.submission(&made(5, b"a"), &first, Some((182, signers(3))));
     let others = mask_of(&[1, 6, 7, 8, 9]);
     let second = [(1, others), (9, signers(5))];
-    let second = cluster.submission(&made(7, b"b"), &second, Some((182, others)));
+    let second = signer.submission(&made(7, b"b"), &second, Some((182, others)));
     (first, second)
 }
 
@@ -164,8 +172,9 @@ mod tests {
             "refusal 5 in 1\nfork 0\n",
             "refusal 5 in 1\nfork 0\n",
         ];
-        let mut pairs = samples(&cluster());
-        pairs.extend(more_pairs(&cluster()));
+        let (cluster, keys) = (cluster(), large_keys());
+        let mut pairs = samples(&cluster, &keys);
+        pairs.extend(more_pairs(&cluster, &keys));
         assert_eq!(pairs.len(), expected.len());
         for (pair, expected) in pairs.iter().zip(expected) {
             let Pair { roster, first, second, .. } = pair;

@@ -82,6 +82,21 @@ fn compress(state: &mut [u32; 8], block: &[u8; 64]) {
     }
 }
 
+/// The most bytes that one block has room for, beside a one bit and the length.
+pub const ONE_BLOCK: usize = 64 - 9;
+
+/// The digest of so many bytes, without copying them part by part: that of a chain's values, of
+/// which there are millions.
+pub fn sha256_of_one_block(bytes: &[u8; ONE_BLOCK]) -> Digest {
+    let mut block = [0; 64];
+    block[..ONE_BLOCK].copy_from_slice(bytes);
+    block[ONE_BLOCK] = 0x80;
+    block[56..].copy_from_slice(&(8 * ONE_BLOCK as u64).to_be_bytes());
+    let mut state = INITIAL;
+    compress(&mut state, &block);
+    written(state)
+}
+
 /// The digest of the parts, one after the other.
 pub fn sha256(parts: &[&[u8]]) -> Digest {
     let mut state = INITIAL;
@@ -111,9 +126,13 @@ pub fn sha256(parts: &[&[u8]]) -> Digest {
     }
     block[56..].copy_from_slice(&bits.to_be_bytes());
     compress(&mut state, &block);
+    written(state)
+}
 
+/// The last hash value's words as bytes.
+fn written(state: [u32; 8]) -> Digest {
     let mut digest = [0; 32];
-    for (bytes, word) in digest.chunks_mut(4).zip(state) {
+    for (bytes, word) in digest.chunks_exact_mut(4).zip(state) {
         bytes.copy_from_slice(&word.to_be_bytes());
     }
     digest
@@ -137,5 +156,12 @@ mod tests {
         for cut in 0..=bytes.len() {
             assert_eq!(sha256(&[&bytes[..cut], &bytes[cut..]]), sha256(&[&bytes]));
         }
+    }
+
+    /// What fills one block has the same digest either way.
+    #[test]
+    fn one_block() {
+        let bytes: [u8; ONE_BLOCK] = std::array::from_fn(|i| i as u8 ^ 0x5a);
+        assert_eq!(sha256_of_one_block(&bytes), sha256(&[&bytes]));
     }
 }

@@ -31,6 +31,25 @@ pub struct Position {
     pub pointer: Digest,
 }
 
+/// What a replica may sign.
+#[derive(Clone, Copy, Debug, PartialEq, Eq, Hash)]
+pub enum Statement {
+    Stamp(Position),
+    Receipt(Position),
+    Vote(Vote),
+}
+
+impl Statement {
+    /// The bytes that a signature is made on.
+    pub fn bytes(&self, name: &Name) -> Vec<u8> {
+        match self {
+            Statement::Stamp(at) => stamp(name, at),
+            Statement::Receipt(at) => receipt(name, at),
+            Statement::Vote(fields) => vote(name, fields),
+        }
+    }
+}
+
 /// Pointers 0 to the log's length, in their order.
 pub fn pointers(log: &[Record]) -> Vec<Digest> {
     let mut pointers = vec![POINTER_0];

@@ -10,8 +10,9 @@
 //! than the program's buffer.
 
 use auditor::audit::findings;
+use auditor::cases::empty;
 use auditor::program;
-use auditor::samples::{cluster, more_pairs, samples, submissions, Pair};
+use auditor::samples::{cluster, large_keys, more_pairs, samples, submissions, Pair};
 use auditor::verdicts::Verdicts;
 use std::path::{Path, PathBuf};
 use std::{env, fs, process::exit};
@@ -28,7 +29,7 @@ fn main() {
 
     let numbers = made(folder.join("numbers"));
     let roster = cluster.roster();
-    let none = cluster.submission(&[], &[], None).bytes();
+    let none = empty(&cluster).bytes();
     write(&numbers, "roster", &roster);
     let mut expected = String::new();
     for (name, meant, bytes) in submissions(&cluster) {
@@ -42,7 +43,9 @@ fn main() {
     }
     write(&numbers, "expected", expected.as_bytes());
 
-    for (part, pairs) in [("samples", samples(&cluster)), ("pairs", more_pairs(&cluster))] {
+    let keys = large_keys();
+    let parts = [("samples", samples(&cluster, &keys)), ("pairs", more_pairs(&cluster, &keys))];
+    for (part, pairs) in parts {
         for pair in pairs {
             write_pair(&made(folder.join(part).join(pair.folder)), &pair, &mut verdicts);
         }

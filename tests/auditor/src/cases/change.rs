@@ -1,32 +1,34 @@
 //! Submissions to change, and changes that keep the layout right.
 
 use super::{empty, small, whole};
-use crate::build::{Cluster, Draft};
+use crate::build::Draft;
+use crate::cluster::Cluster;
+use crate::signer::Signer;
 
-/// Accepted submissions to change.
-pub fn bases(cluster: &Cluster) -> Vec<(String, Draft)> {
-    let mut two = whole(cluster);
+/// Accepted submissions to change, each signed as if alone.
+pub fn bases(signer: &Signer) -> Vec<(String, Draft)> {
+    let mut two = whole(&signer.clone());
     two.commit = None;
     two.lay_out();
     vec![
-        ("empty".into(), empty(cluster)),
-        ("one record".into(), small(cluster)),
+        ("empty".into(), empty(signer)),
+        ("one record".into(), small(&signer.clone())),
         ("two terms".into(), two),
-        ("two terms and a commit".into(), whole(cluster)),
+        ("two terms and a commit".into(), whole(&signer.clone())),
     ]
 }
 
 /// The same, and two with right layouts in which other parts are empty: records alone, which get
 /// number 12, and a commit certificate alone, which gets 14.
-pub fn laid_out(cluster: &Cluster) -> Vec<(String, Draft)> {
-    let mut drafts = bases(cluster);
-    let mut records = small(cluster);
+pub fn laid_out(signer: &Signer) -> Vec<(String, Draft)> {
+    let mut drafts = bases(signer);
+    let mut records = small(&signer.clone());
     records.leaders.clear();
     records.stamps.clear();
     records.lay_out();
     drafts.push(("records alone".into(), records));
-    let mut commit = empty(cluster);
-    commit.commit = whole(cluster).commit;
+    let mut commit = empty(signer);
+    commit.commit = whole(&signer.clone()).commit;
     commit.lay_out();
     drafts.push(("a commit alone".into(), commit));
     drafts

@@ -7,8 +7,8 @@ use crate::submission::CommitCertificate;
 impl Cases<'_> {
     /// Number 14.
     pub fn commit_indexes(&mut self) {
-        let cluster = self.cluster(3, 5);
-        for (base, mut draft) in bases(&cluster) {
+        let signer = self.signer(3, 5);
+        for (base, mut draft) in bases(&signer) {
             let h = draft.records.len() as u32;
             let mut indexes =
                 vec![0, h + 1, h + 2, h | 1 << 8, h | 1 << 16, 4097, 1 << 31, u32::MAX];
@@ -17,9 +17,9 @@ impl Cases<'_> {
                 draft.commit =
                     Some(CommitCertificate { index, signers: 0, signatures: Vec::new() });
                 let slot = slots(&draft) - 1;
-                set_signers(&cluster, &mut draft, slot, cluster.first_quorum());
+                set_signers(&signer, &mut draft, slot, signer.first_quorum());
                 let name = format!("{base}, commit index {index} of {h}");
-                self.refuse_once(&name, &cluster, &draft.bytes(), 14);
+                self.refuse_once(&name, &signer, &draft.bytes(), 14);
             }
         }
     }

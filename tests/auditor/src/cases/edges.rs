@@ -7,9 +7,9 @@ use crate::bytes::{u16_at, u32_at};
 
 impl Cases<'_> {
     pub fn edges(&mut self) {
-        let cluster = self.cluster(3, 5);
-        let s = cluster.signature_size() as u32;
-        for (base, draft) in laid_out(&cluster) {
+        let signer = self.signer(3, 5);
+        let s = signer.signature_size() as u32;
+        for (base, draft) in laid_out(&signer) {
             let bytes = draft.bytes();
             let mut changes = Vec::new();
             for (what, at, size) in fields(&draft) {
@@ -24,7 +24,7 @@ impl Cases<'_> {
                 other[at..at + size].copy_from_slice(&value_bytes[4 - size..]);
                 let place = 1 + self.random.below(2) as u8;
                 let name = format!("{base}, {what} is {value}");
-                self.once(&name, &cluster, &other, place, Expect::Refused);
+                self.once(&name, &signer, &other, place, Expect::Refused);
             }
         }
     }

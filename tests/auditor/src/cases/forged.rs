@@ -1,8 +1,10 @@
 //! Number 15: every signature spoiled, or good for something else.
 
 use super::{small, whole, Cases};
-use crate::build::{Cluster, Draft};
-use crate::roster::replicas_of;
+use crate::build::Draft;
+use crate::cluster::Cluster;
+use crate::roster::{replicas_of, Name};
+use crate::signer::Signer;
 use crate::statement::{self, pointers, Position};
 
 /// Which signature: a vote's by certificate and signer, each counted from 0, a stamp or a receipt.
@@ -13,18 +15,21 @@ enum Slot {
     Receipt(usize),
 }
 
+/// Writes a stamp or a receipt.
+type Statement = fn(&Name, &Position) -> Vec<u8>;
+
 impl Cases<'_> {
     pub fn forged(&mut self) {
         for (n, tree) in [(3, 5), (5, 5), (3, 7), (3, 9)] {
-            let cluster = self.cluster(n, tree);
-            let draft = whole(&cluster);
+            let signer = self.signer(n, tree);
+            let draft = whole(&signer);
             for slot in slots(&draft) {
-                self.spoiled(&cluster, &draft, slot);
+                self.spoiled(&signer, &draft, slot);
             }
         }
-        let cluster = self.cluster(3, 5);
-        self.other_statements(&cluster);
-        self.other_signers(&cluster);
+        let signer = self.signer(3, 5);
+        self.other_statements(&signer);
+        self.other_signers(&signer);
     }
 
     /// One signature with a bit changed, another type or leaf, another signer's, or none at all.
@@ -68,52 +73,52 @@ impl Cases<'_> {
     }
 
     /// Good signatures of the right replica, on a statement that is not the right one.
-    fn other_statements(&mut self, cluster: &Cluster) {
-        let draft = whole(cluster);
+    fn other_statements(&mut self, signer: &Signer) {
+        let draft = whole(signer);
         let right = pointers(&draft.records);
         let at = |index: usize| Position {
             term: draft.records[index - 1].term,
             index: index as u32,
             pointer: right[index],
         };
-        let mut name = cluster.name;
+        let mut name = signer.name;
         name[15] ^= 1;
         for (slot, index) in [(Slot::Stamp(0), 2), (Slot::Stamp(1), 3), (Slot::Receipt(0), 2)] {
-            let (signer, of): (u16, fn(&[u8; 16], &Position) -> Vec<u8>) = match slot {
+            let (replica, of): (u16, Statement) = match slot {
                 Slot::Stamp(i) => (draft.leaders[i].vote.candidate, statement::stamp),
                 _ => (1, statement::receipt),
             };
             let mut messages = vec![("another cluster", of(&name, &at(index)))];
             for other in (1..=3).filter(|other| *other != index) {
-                messages.push(("another record", of(&cluster.name, &at(other))));
+                messages.push(("another record", of(&signer.name, &at(other))));
                 let pointer = right[other];
                 let mixed = Position { pointer, ..at(index) };
-                messages.push(("another record's pointer", of(&cluster.name, &mixed)));
+                messages.push(("another record's pointer", of(&signer.name, &mixed)));
             }
             for term in [0, 1, 3, u32::MAX].into_iter().filter(|term| *term != at(index).term) {
                 let moved = Position { term, ..at(index) };
-                messages.push(("another term", of(&cluster.name, &moved)));
+                messages.push(("another term", of(&signer.name, &moved)));
             }
             for other in [0, 1, 3, u32::MAX].into_iter().filter(|i| *i != index as u32) {
                 let moved = Position { index: other, ..at(index) };
-                messages.push(("another index", of(&cluster.name, &moved)));
+                messages.push(("another index", of(&signer.name, &moved)));
             }
             for kind in [0, 1, 2, 3, 255] {
-                let mut message = of(&cluster.name, &at(index));
+                let mut message = of(&signer.name, &at(index));
                 if message[0] != kind {
                     message[0] = kind;
                     messages.push(("another kind", message));
                 }
             }
-            let mut longer = of(&cluster.name, &at(index));
+            let mut longer = of(&signer.name, &at(index));
             longer.push(0);
             messages.push(("one byte more", longer));
-            let shorter = of(&cluster.name, &at(index))[..56].to_vec();
+            let shorter = of(&signer.name, &at(index))[..56].to_vec();
             messages.push(("one byte less", shorter));
             for (what, message) in messages {
                 let mut other = draft.clone();
-                *signature(&mut other, slot) = cluster.sign(signer, &message);
-                self.forgery(&format!("{slot:?} on {what}"), cluster, &other);
+                *signature(&mut other, slot) = signer.clone().sign(replica, &message);
+                self.forgery(&format!("{slot:?} on {what}"), signer, &other);
             }
         }
         for slot in [0, 1] {
@@ -121,43 +126,44 @@ impl Cases<'_> {
             let mut messages = vec![("another cluster", statement::vote(&name, &vote))];
             for candidate in (0..=4).filter(|candidate| *candidate != vote.candidate) {
                 let changed = statement::Vote { candidate, ..vote };
-                messages.push(("another candidate", statement::vote(&cluster.name, &changed)));
+                messages.push(("another candidate", statement::vote(&signer.name, &changed)));
             }
             let changed = statement::Vote { term: vote.term + 1, ..vote };
-            messages.push(("another term", statement::vote(&cluster.name, &changed)));
+            messages.push(("another term", statement::vote(&signer.name, &changed)));
             let changed = statement::Vote { last_term: vote.last_term + 1, ..vote };
-            messages.push(("another last term", statement::vote(&cluster.name, &changed)));
+            messages.push(("another last term", statement::vote(&signer.name, &changed)));
             let changed = statement::Vote { last_index: vote.last_index + 1, ..vote };
-            messages.push(("another last index", statement::vote(&cluster.name, &changed)));
+            messages.push(("another last index", statement::vote(&signer.name, &changed)));
             let changed = statement::Vote { last_pointer: right[1], ..vote };
-            messages.push(("another last pointer", statement::vote(&cluster.name, &changed)));
-            let mut kind = statement::vote(&cluster.name, &vote);
+            messages.push(("another last pointer", statement::vote(&signer.name, &changed)));
+            let mut kind = statement::vote(&signer.name, &vote);
             kind[0] = 1;
             messages.push(("another kind", kind));
             for (what, message) in messages {
-                for (i, signer) in replicas_of(draft.leaders[slot].signers).iter().enumerate() {
+                for (i, replica) in replicas_of(draft.leaders[slot].signers).iter().enumerate() {
                     let mut other = draft.clone();
-                    *signature(&mut other, Slot::Vote(slot, i)) = cluster.sign(*signer, &message);
-                    self.forgery(&format!("vote {slot} {i} on {what}"), cluster, &other);
+                    *signature(&mut other, Slot::Vote(slot, i)) =
+                        signer.clone().sign(*replica, &message);
+                    self.forgery(&format!("vote {slot} {i} on {what}"), signer, &other);
                 }
             }
         }
     }
 
     /// Right signatures by another replica or in another order.
-    fn other_signers(&mut self, cluster: &Cluster) {
-        let draft = whole(cluster);
+    fn other_signers(&mut self, signer: &Signer) {
+        let draft = whole(signer);
         for slot in 0..2 {
             let mut other = draft.clone();
             other.leaders[slot].signatures.swap(0, 1);
-            self.forgery("votes in falling order", cluster, &other);
+            self.forgery("votes in falling order", signer, &other);
             // The certificate names other signers than those who signed.
             let mut other = draft.clone();
-            other.leaders[slot].signers = cluster.all() & !(other.leaders[slot].signers)
+            other.leaders[slot].signers = signer.all() & !(other.leaders[slot].signers)
                 | 1 << (other.leaders[slot].vote.candidate - 1);
-            self.forgery("another signer named", cluster, &other);
-            for signer in 1..=cluster.n() as u16 {
-                if signer != draft.leaders[slot].vote.candidate {
+            self.forgery("another signer named", signer, &other);
+            for replica in 1..=signer.n() as u16 {
+                if replica != draft.leaders[slot].vote.candidate {
                     let mut other = draft.clone();
                     let end = [2, 3][slot];
                     let at = Position {
@@ -166,27 +172,27 @@ impl Cases<'_> {
                         pointer: pointers(&draft.records)[end],
                     };
                     other.stamps[slot] =
-                        cluster.sign(signer, &statement::stamp(&cluster.name, &at));
-                    self.forgery("stamp by another replica", cluster, &other);
+                        signer.clone().sign(replica, &statement::stamp(&signer.name, &at));
+                    self.forgery("stamp by another replica", signer, &other);
                 }
             }
         }
         let mut other = draft.clone();
         other.stamps.swap(0, 1);
-        self.forgery("stamps exchanged", cluster, &other);
+        self.forgery("stamps exchanged", signer, &other);
         let mut other = draft.clone();
         other.commit.as_mut().expect("a commit certificate").signatures.swap(0, 1);
-        self.forgery("receipts in falling order", cluster, &other);
+        self.forgery("receipts in falling order", signer, &other);
         for index in [1, 3] {
             let mut other = draft.clone();
             other.commit.as_mut().expect("a commit certificate").index = index;
-            self.forgery("receipts for another record", cluster, &other);
+            self.forgery("receipts for another record", signer, &other);
         }
         // A last record that nothing but the stamp is made on.
-        for base in [small(cluster), draft] {
+        for base in [small(&signer.clone()), draft] {
             let mut other = base;
             other.records.last_mut().expect("a record").payload[0] ^= 1;
-            self.forgery("another last payload", cluster, &other);
+            self.forgery("another last payload", signer, &other);
         }
     }
 }

@@ -2,18 +2,19 @@
 
 use super::change::{bases, laid_out, set_signers, signers, slots};
 use super::{empty, small, Cases};
-use crate::build::{Cluster, Draft};
+use crate::build::Draft;
+use crate::cluster::Cluster;
 
 impl Cases<'_> {
     /// Number 9, and what is next to it.
     pub fn layouts(&mut self) {
-        let cluster = self.cluster(3, 5);
-        for (base, draft) in laid_out(&cluster) {
-            self.gaps(&format!("{base}, byte"), &cluster, &draft);
-            self.stray_signers(&base, &cluster, &draft);
+        let signer = self.signer(3, 5);
+        for (base, draft) in laid_out(&signer) {
+            self.gaps(&format!("{base}, byte"), &signer, &draft);
+            self.stray_signers(&base, &signer, &draft);
         }
         // A fourth distance that leaves no room for a certificate, and one without signers.
-        for (base, mut draft) in bases(&cluster) {
+        for (base, mut draft) in bases(&signer) {
             draft.commit = None;
             draft.lay_out();
             for d4 in 0..=7u32 {
@@ -28,25 +29,25 @@ impl Cases<'_> {
                 let end = body.len() - 44;
                 body.splice(end..end, vec![0; d4 as usize]);
                 let name = format!("{base}, fourth distance {d4} over zero bytes");
-                self.refuse(&name, &cluster, &body, number);
+                self.refuse(&name, &signer, &body, number);
             }
         }
         // The distances of empty parts.
         for part in 0..4 {
             for distance in [1, 36, 44, 1 << 31, u32::MAX] {
-                let mut draft = empty(&cluster);
+                let mut draft = empty(&signer);
                 draft.trailer.distances[part] = distance;
                 let name = format!("empty, distance {} is {distance}", part + 1);
-                self.refuse_once(&name, &cluster, &draft.bytes(), 9);
+                self.refuse_once(&name, &signer, &draft.bytes(), 9);
             }
         }
         // A tree type's signatures under another type's roster.
         for tree in 6..=9 {
-            let tall = self.cluster(3, tree);
+            let tall = self.signer(3, tree);
             let mut draft = small(&tall);
-            draft.trailer.name = cluster.name;
-            self.refuse_once("signatures of a taller tree", &cluster, &draft.bytes(), 9);
-            let mut draft = small(&cluster);
+            draft.trailer.name = signer.name;
+            self.refuse_once("signatures of a taller tree", &signer, &draft.bytes(), 9);
+            let mut draft = small(&signer);
             draft.trailer.name = tall.name;
             self.refuse_once("signatures of a lower tree", &tall, &draft.bytes(), 9);
         }

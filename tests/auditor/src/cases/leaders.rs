@@ -1,39 +1,40 @@
 //! Number 13.
 
 use super::{whole, Cases};
-use crate::build::{Cluster, Draft};
+use crate::build::Draft;
+use crate::signer::Signer;
 
 impl Cases<'_> {
     /// Number 13: each field of each leader certificate, signed as it stands.
     pub fn leaders(&mut self) {
         for n in [3, 9] {
-            let cluster = self.cluster(n, 5);
-            let draft = whole(&cluster);
+            let signer = self.signer(n, 5);
+            let draft = whole(&signer);
             for slot in 0..draft.leaders.len() {
-                self.leader_fields(&cluster, &draft, slot);
+                self.leader_fields(&signer, &draft, slot);
             }
         }
         // The fields that a log with another beginning would ask for.
-        let cluster = self.cluster(3, 5);
-        let draft = whole(&cluster);
+        let signer = self.signer(3, 5);
+        let draft = whole(&signer);
         let mut other = draft.clone();
         other.leaders.swap(0, 1);
-        cluster.sign_all(&mut other);
-        self.refuse("certificates exchanged", &cluster, &other.bytes(), 13);
+        signer.clone().sign_all(&mut other);
+        self.refuse("certificates exchanged", &signer, &other.bytes(), 13);
         let mut other = draft.clone();
         other.leaders[1] = draft.leaders[0].clone();
-        cluster.sign_all(&mut other);
-        self.refuse("one certificate twice", &cluster, &other.bytes(), 13);
+        signer.clone().sign_all(&mut other);
+        self.refuse("one certificate twice", &signer, &other.bytes(), 13);
         let mut other = draft.clone();
         other.records[0].payload[31] ^= 1;
-        cluster.sign_all(&mut other);
-        self.refuse("another record before", &cluster, &other.bytes(), 13);
+        signer.clone().sign_all(&mut other);
+        self.refuse("another record before", &signer, &other.bytes(), 13);
     }
 
-    fn leader_fields(&mut self, cluster: &Cluster, draft: &Draft, slot: usize) {
+    fn leader_fields(&mut self, signer: &Signer, draft: &Draft, slot: usize) {
         let right = draft.leaders[slot].clone();
-        let outside = (1..=cluster.n() as u16).filter(|k| right.signers >> (k - 1) & 1 == 0);
-        let mut candidates: Vec<u16> = vec![0, cluster.n() as u16 + 1, 15, 16, 17, 18, 32, 33];
+        let outside = (1..=signer.n() as u16).filter(|k| right.signers >> (k - 1) & 1 == 0);
+        let mut candidates: Vec<u16> = vec![0, signer.n() as u16 + 1, 15, 16, 17, 18, 32, 33];
         candidates.extend([right.vote.candidate + 16, right.vote.candidate + 32, 256, 257]);
         candidates.extend([right.vote.candidate | 0x100, 32767, 32768, 65534, 65535]);
         candidates.extend(outside);
@@ -41,8 +42,8 @@ impl Cases<'_> {
             let name = format!("leader {slot}, candidate {candidate}");
             let mut other = draft.clone();
             other.leaders[slot].vote.candidate = candidate;
-            cluster.sign_all(&mut other);
-            self.refuse_once(&name, cluster, &other.bytes(), 13);
+            signer.clone().sign_all(&mut other);
+            self.refuse_once(&name, signer, &other.bytes(), 13);
         }
         let numbers = |right: u32| {
             let edges =
@@ -52,16 +53,16 @@ impl Cases<'_> {
         for value in self.some(numbers(right.vote.term), 2) {
             let mut other = draft.clone();
             other.leaders[slot].vote.term = value;
-            cluster.sign_all(&mut other);
-            self.refuse_once(&format!("leader {slot}, term {value}"), cluster, &other.bytes(), 13);
+            signer.clone().sign_all(&mut other);
+            self.refuse_once(&format!("leader {slot}, term {value}"), signer, &other.bytes(), 13);
         }
         for value in self.some(numbers(right.vote.last_term), 2) {
             let mut other = draft.clone();
             other.leaders[slot].vote.last_term = value;
-            cluster.sign_all(&mut other);
+            signer.clone().sign_all(&mut other);
             self.refuse_once(
                 &format!("leader {slot}, last term {value}"),
-                cluster,
+                signer,
                 &other.bytes(),
                 13,
             );
@@ -69,10 +70,10 @@ impl Cases<'_> {
         for value in self.some(numbers(right.vote.last_index), 2) {
             let mut other = draft.clone();
             other.leaders[slot].vote.last_index = value;
-            cluster.sign_all(&mut other);
+            signer.clone().sign_all(&mut other);
             self.refuse_once(
                 &format!("leader {slot}, last index {value}"),
-                cluster,
+                signer,
                 &other.bytes(),
                 13,
             );
@@ -81,7 +82,7 @@ impl Cases<'_> {
             let mut other = draft.clone();
             other.leaders[slot].vote.last_pointer[at] ^= 1 << self.random.below(8);
             let name = format!("leader {slot}, last pointer byte {at}");
-            self.refuse_once(&name, cluster, &other.bytes(), 13);
+            self.refuse_once(&name, signer, &other.bytes(), 13);
         }
     }
 }

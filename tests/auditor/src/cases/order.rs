@@ -3,15 +3,16 @@
 
 use super::change::{set_leaders, set_signers, slots};
 use super::{whole, Cases, Expect};
-use crate::build::Cluster;
+use crate::cluster::Cluster;
 use crate::roster::{HEAD_SIZE, KEY_SIZE};
+use crate::signer::Signer;
 
 /// The numbers of a submission.
 const NUMBERS: [u8; 11] = [5, 6, 7, 8, 9, 10, 11, 12, 13, 14, 15];
 
 /// A submission with each of these numbers' faults; none of them hides a lower one.
-fn faulty(cluster: &Cluster, numbers: &[u8]) -> Vec<u8> {
-    let mut draft = whole(cluster);
+fn faulty(signer: &Signer, numbers: &[u8]) -> Vec<u8> {
+    let mut draft = whole(signer);
     let has = |number| numbers.contains(&number);
     if has(15) {
         draft.stamps[1][100] ^= 1;
@@ -30,7 +31,7 @@ fn faulty(cluster: &Cluster, numbers: &[u8]) -> Vec<u8> {
     }
     if has(10) {
         let last = slots(&draft) - 1;
-        set_signers(cluster, &mut draft, last, 1 << 15 | 0b11);
+        set_signers(signer, &mut draft, last, 1 << 15 | 0b11);
     }
     if has(9) {
         draft.trailer.distances[2] += 1;
@@ -65,15 +66,15 @@ fn faulty_roster(cluster: &Cluster, number: u8) -> Vec<u8> {
 
 impl Cases<'_> {
     pub fn order(&mut self) {
-        let cluster = self.cluster(3, 5);
-        let roster = cluster.roster();
+        let signer = self.signer(3, 5);
+        let roster = signer.roster();
         // Every set of faults in one submission.
         let sets: Vec<u32> = (1..1 << NUMBERS.len()).collect();
         for set in self.some(sets, 40) {
             let numbers: Vec<u8> =
                 (0..NUMBERS.len()).filter(|i| set >> i & 1 == 1).map(|i| NUMBERS[i]).collect();
-            let bytes = faulty(&cluster, &numbers);
-            self.refuse_once(&format!("faults {numbers:?}"), &cluster, &bytes, numbers[0]);
+            let bytes = faulty(&signer, &numbers);
+            self.refuse_once(&format!("faults {numbers:?}"), &signer, &bytes, numbers[0]);
         }
         // Each fault in the first with each in the second.
         let mut both = Vec::new();
@@ -81,20 +82,20 @@ impl Cases<'_> {
             both.extend(NUMBERS.map(|b| (a, b)));
         }
         for (a, b) in self.some(both, 12) {
-            let (first, second) = (faulty(&cluster, &[a]), faulty(&cluster, &[b]));
+            let (first, second) = (faulty(&signer, &[a]), faulty(&signer, &[b]));
             let name = format!("{a} in the first, {b} in the second");
             self.case(&name, &roster, &first, &second, Expect::Number(a, 1));
         }
         for number in NUMBERS {
-            let (good, bad) = (faulty(&cluster, &[]), faulty(&cluster, &[number]));
+            let (good, bad) = (faulty(&signer, &[]), faulty(&signer, &[number]));
             let name = format!("{number} beside a good one");
             self.case(&name, &roster, &good, &bad, Expect::Number(number, 2));
             self.case(&name, &roster, &bad, &good, Expect::Number(number, 1));
         }
         for roster_number in [2, 3, 4] {
-            let roster = faulty_roster(&cluster, roster_number);
+            let roster = faulty_roster(&signer, roster_number);
             for number in NUMBERS {
-                let bad = faulty(&cluster, &[number]);
+                let bad = faulty(&signer, &[number]);
                 let name = format!("roster {roster_number}, submissions {number}");
                 self.case(&name, &roster, &bad, &bad, Expect::Number(roster_number, 0));
             }

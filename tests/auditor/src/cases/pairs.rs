@@ -2,10 +2,12 @@
 //! signs anything.
 
 use super::{Cases, Expect};
-use crate::build::{Cluster, Draft};
+use crate::build::Draft;
+use crate::cluster::FEW_LEAVES;
 use crate::district::{two_of, District};
 use crate::roster::{mask_of, replicas_of};
 use crate::sha256::sha256;
+use crate::signer::Signer;
 use crate::statement::Record;
 
 /// How many loose pairs there are for a number of replicas and a tree type.
@@ -26,8 +28,6 @@ impl Cases<'_> {
     /// Districts of every size with no cheat, some, and cheats only.
     pub fn districts(&mut self) {
         for n in 3..=9 {
-            let cluster = self.cluster(n, 5);
-            let roster = cluster.roster();
             let rounds = self.count(if n < 6 { 30 } else { 12 });
             for round in 0..rounds {
                 let cheats = match self.size {
@@ -35,12 +35,14 @@ impl Cases<'_> {
                     super::Size::Small => self.random.below(n + 1),
                 };
                 let district = District::simulate(n, cheats, &mut self.random);
+                let cluster = self.keys.cluster_with(n, district.leaves());
+                let (roster, signer) = (cluster.roster(), district.signer(&cluster));
                 let claims = district.claims(&mut self.random);
                 for pair in 0..4 {
                     let Some((a, b)) = two_of(&claims, &mut self.random) else {
                         break;
                     };
-                    let (first, second) = (a.draft(&cluster).bytes(), b.draft(&cluster).bytes());
+                    let (first, second) = (a.draft(&signer).bytes(), b.draft(&signer).bytes());
                     let name = format!("district {round} of {n} with {cheats} cheats, pair {pair}");
                     self.case(&name, &roster, &first, &second, Expect::Honest(district.honest));
                 }
@@ -51,17 +53,18 @@ impl Cases<'_> {
     /// Short logs of few terms and payloads, any leaders, any signers, any commit.
     pub fn loose_pairs(&mut self) {
         for (n, tree, count) in LOOSE_PAIRS {
-            let cluster = self.cluster(n, tree);
+            let cluster = self.keys.cluster_from_0(n, tree, FEW_LEAVES);
             let roster = cluster.roster();
             for pair in 0..self.count(count) {
-                let (first, second) = (self.loose(&cluster).bytes(), self.loose(&cluster).bytes());
+                let signer = Signer::new(&cluster);
+                let (first, second) = (self.loose(&signer).bytes(), self.loose(&signer).bytes());
                 let name = format!("loose pair {pair} of {n}, tree type {tree}");
                 self.case(&name, &roster, &first, &second, Expect::Honest(0));
             }
         }
     }
 
-    fn loose(&mut self, cluster: &Cluster) -> Draft {
+    fn loose(&mut self, signer: &Signer) -> Draft {
         let mut records = Vec::new();
         let mut term = 1;
         for _ in 0..1 + self.random.below(4) {
@@ -74,7 +77,7 @@ impl Cases<'_> {
         let leaders: Vec<(u16, u16)> = terms
             .iter()
             .map(|_| {
-                let signers = self.some_quorum(cluster);
+                let signers = self.some_quorum(signer);
                 let replicas = replicas_of(signers);
                 (replicas[self.random.below(replicas.len())], signers)
             })
@@ -83,17 +86,17 @@ impl Cases<'_> {
             0 => None,
             _ => {
                 let index = 1 + self.random.below(records.len()) as u32;
-                Some((index, self.some_quorum(cluster)))
+                Some((index, self.some_quorum(signer)))
             }
         };
-        cluster.submission(&records, &leaders, commit)
+        signer.submission(&records, &leaders, commit)
     }
 
     /// q replicas, sometimes one more.
-    fn some_quorum(&mut self, cluster: &Cluster) -> u16 {
-        let mut replicas: Vec<u16> = (1..=cluster.n() as u16).collect();
+    fn some_quorum(&mut self, signer: &Signer) -> u16 {
+        let mut replicas: Vec<u16> = (1..=signer.n() as u16).collect();
         crate::district::shuffle(&mut replicas, &mut self.random);
-        let count = cluster.quorum() + usize::from(self.random.below(5) == 0);
+        let count = signer.quorum() + usize::from(self.random.below(5) == 0);
         mask_of(&replicas[..count])
     }
 }

@@ -6,9 +6,9 @@ use crate::audit::REPORT_SIZE;
 
 impl Cases<'_> {
     pub fn reports(&mut self) {
-        let cluster = self.cluster(3, 5);
-        let roster = cluster.roster();
-        let right = empty(&cluster).bytes();
+        let signer = self.signer(3, 5);
+        let roster = signer.roster();
+        let right = empty(&signer).bytes();
         let mut lengths: Vec<usize> = (0..=70).collect();
         lengths.extend([100, 106, 128, 255, 256, 257, 309, 4096, 65536 + 53, 100_000]);
         for report in self.some(lengths, 10) {
@@ -28,7 +28,7 @@ impl Cases<'_> {
                 (self.take)(&Case { name, roster, first, second, report, expect });
             }
         }
-        for (first, second) in [one_leader(&cluster), stale_leader(&cluster)] {
+        for (first, second) in [one_leader(&signer), stale_leader(&self.signer(3, 5))] {
             let (first, second) = (first.bytes(), second.bytes());
             for report in [0, 1, 52, 53, 54, 60, 1000] {
                 let expect = match report < REPORT_SIZE {

@@ -1,7 +1,7 @@
 //! Rosters: numbers 2 to 4 in every way and place.
 
 use super::{empty, Cases, Expect};
-use crate::build::Cluster;
+use crate::cluster::Cluster;
 use crate::roster::{HEAD_SIZE, KEY_SIZE};
 
 impl Cases<'_> {

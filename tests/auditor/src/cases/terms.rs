@@ -8,8 +8,8 @@ use crate::statement::Record;
 impl Cases<'_> {
     /// Numbers 11 and 12.
     pub fn terms(&mut self) {
-        let cluster = self.cluster(3, 5);
-        let draft = whole(&cluster);
+        let signer = self.signer(3, 5);
+        let draft = whole(&signer);
         let records = draft.records.len();
         for i in 0..records {
             let below = if i == 0 { 0 } else { draft.records[i - 1].term - 1 };
@@ -19,7 +19,7 @@ impl Cases<'_> {
                     let mut other = draft.clone();
                     other.records[i].term = term;
                     let name = format!("record {} of term {term}", i + 1);
-                    self.refuse(&name, &cluster, &other.bytes(), 11);
+                    self.refuse(&name, &signer, &other.bytes(), 11);
                 }
             }
         }
@@ -34,17 +34,17 @@ impl Cases<'_> {
             for (record, term) in other.records.iter_mut().zip(terms) {
                 record.term = term;
             }
-            self.refuse(name, &cluster, &other.bytes(), 11);
+            self.refuse(name, &signer, &other.bytes(), 11);
         }
         // Fewer and more certificates than terms; any with an empty log.
         for count in self.some(vec![0, 1, 3, 4, 5, 8, 33, 63, 64], 3) {
             let mut other = draft.clone();
             set_leaders(&mut other, count);
-            self.refuse(&format!("2 terms, L {count}"), &cluster, &other.bytes(), 12);
+            self.refuse(&format!("2 terms, L {count}"), &signer, &other.bytes(), 12);
             let mut other = draft.clone();
             other.records = Vec::new();
             set_leaders(&mut other, count.max(1));
-            self.refuse(&format!("no record, L {count}"), &cluster, &other.bytes(), 12);
+            self.refuse(&format!("no record, L {count}"), &signer, &other.bytes(), 12);
         }
         // One more or one fewer distinct term in the log.
         for terms in [[1, 1, 1], [1, 2, 3], [3, 3, 3], [1, u32::MAX - 1, u32::MAX]] {
@@ -52,7 +52,7 @@ impl Cases<'_> {
             for (record, term) in other.records.iter_mut().zip(terms) {
                 record.term = term;
             }
-            self.refuse(&format!("terms {terms:?}, L 2"), &cluster, &other.bytes(), 12);
+            self.refuse(&format!("terms {terms:?}, L 2"), &signer, &other.bytes(), 12);
         }
         // As many records as may be, of one more term than may be, and of 4,096.
         let record = |term| Record { term, payload: [0; 32] };
@@ -65,7 +65,7 @@ impl Cases<'_> {
         {
             let mut other = draft;
             set_leaders(&mut other, 64);
-            self.refuse_once(name, &cluster, &other.bytes(), 12);
+            self.refuse_once(name, &signer, &other.bytes(), 12);
         }
     }
 }

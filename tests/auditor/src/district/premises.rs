@@ -2,16 +2,18 @@
 //! in document 01's words.
 
 use super::replica::{Act, Replica};
+use crate::bytes::u32_at;
+use crate::leaves::Leaves;
 use crate::roster::Name;
 use crate::sha256::sha256;
 use crate::statement::{self, chain_string, pointers, Record};
 use crate::submission::Submission;
 use crate::verdicts::Verdicts;
-use std::collections::{HashMap, HashSet};
+use std::collections::HashMap;
 
-/// What a list of acts signs, and the logs held on the way.
+/// What a list of acts signs, each statement with its leaf, and the logs held on the way.
 pub struct Past {
-    signed: HashSet<Vec<u8>>,
+    signed: Leaves<Vec<u8>>,
     held: Vec<Vec<Record>>,
 }
 
@@ -20,7 +22,7 @@ impl Past {
     /// them breaks a board rule.
     pub fn of(acts: &[Act], n: usize, name: &Name) -> Option<Past> {
         let mut replica = Replica::new(0);
-        let mut past = Past { signed: HashSet::new(), held: vec![Vec::new()] };
+        let mut past = Past { signed: Leaves::default(), held: vec![Vec::new()] };
         for act in acts {
             let kept = match act {
                 Act::Raise(term) => replica.raise(*term),
@@ -43,14 +45,13 @@ impl Past {
         Some(past)
     }
 
+    /// The statement, if the act is allowed, takes the next leaf, unless it has one.
     fn sign(&mut self, statement: Option<Vec<u8>>) -> bool {
-        let kept = statement.is_some();
-        self.signed.extend(statement);
-        kept
+        statement.map(|statement| self.signed.of(statement)).is_some()
     }
 
     /// How many signatures of the two submissions are good under the replica's key; nothing if one
-    /// of them stands on a statement that was not signed in the list.
+    /// of them stands on a statement that was not signed in the list, or not with that leaf.
     pub fn own_signatures(
         &self,
         key: &[u8],
@@ -61,7 +62,7 @@ impl Past {
         let mut own = 0;
         for slot in two.iter().flat_map(|submission| submission.slots(name)) {
             if verdicts.good(key, &slot.statement, slot.signature) {
-                if !self.signed.contains(&slot.statement) {
+                if self.signed.known(&slot.statement) != Some(u32_at(slot.signature, 0)) {
                     return None;
                 }
                 own += 1;
@@ -89,16 +90,21 @@ impl Past {
 #[cfg(test)]
 mod tests {
     use super::*;
-    use crate::build::{log, Cluster};
+    use crate::build::log;
+    use crate::cluster::{Cluster, Keys};
     use crate::roster::Roster;
+    use crate::signer::Signer;
+    use std::rc::Rc;
 
     /// A replica that votes for itself, adds a record, stamps it and gives a receipt for it; and
     /// the submission that this allows.
-    fn past_and_submission(cluster: &Cluster, roster: &Roster) -> (Past, Submission) {
+    fn past_and_submission(cluster: &Rc<Cluster>, roster: &Roster) -> (Past, Submission) {
         let records = log(&[(1, "a")]);
-        let draft = cluster.submission(&records, &[(1, 0b011)], Some((1, 0b101)));
+        let signer = Signer::new(cluster);
+        let draft = signer.submission(&records, &[(1, 0b011)], Some((1, 0b101)));
         let vote = draft.leaders[0].vote;
-        let acts = [Act::Vote(vote), Act::Add(records[0]), Act::Stamp, Act::Receipt(1)];
+        let acts =
+            [Act::Vote(vote), Act::Add(records[0]), Act::Stamp, Act::Restart, Act::Receipt(1)];
         let past = Past::of(&acts, 3, &roster.name).expect("the acts keep the rules");
         let read = Submission::read(roster, &draft.bytes(), &mut Verdicts::default());
         (past, read.expect("the submission is accepted"))
@@ -106,20 +112,39 @@ mod tests {
 
     #[test]
     fn met() {
-        let cluster = Cluster::new("premises", 3, 5);
+        let cluster = Keys::new("premises").cluster_from_0(3, 5, 4);
         let roster = Roster::read(&cluster.roster()).expect("a roster");
         let (past, submission) = past_and_submission(&cluster, &roster);
         let (two, mut verdicts) = ([&submission, &submission], Verdicts::default());
         let mut own = |k| past.own_signatures(roster.key(k), &roster.name, two, &mut verdicts);
-        // Its vote, stamp and receipt, in either; replicas 2 and 3 signed nothing else.
-        assert_eq!([1, 2, 3].map(&mut own), [Some(6), Some(2), Some(2)]);
+        // Its vote, stamp and receipt, in either; replica 2 signed nothing but the vote, with its
+        // first leaf too, and replica 3 nothing but the receipt, which is not replica 1's first.
+        assert_eq!([1, 2, 3].map(&mut own), [Some(6), Some(2), None]);
         assert!(past.strings_apart(two));
+    }
+
+    /// The same statements in another order have other leaves; a restart changes nothing.
+    #[test]
+    fn other_leaves() {
+        let cluster = Keys::new("premises").cluster_from_0(3, 5, 4);
+        let roster = Roster::read(&cluster.roster()).expect("a roster");
+        let (_, submission) = past_and_submission(&cluster, &roster);
+        let (two, mut verdicts) = ([&submission, &submission], Verdicts::default());
+        let (vote, record) = (submission.leaders[0].vote, submission.records[0]);
+        let mut own = |acts: &[Act]| {
+            let past = Past::of(acts, 3, &roster.name).expect("the acts keep the rules");
+            past.own_signatures(roster.key(1), &roster.name, two, &mut verdicts)
+        };
+        let begun = [Act::Vote(vote), Act::Restart, Act::Vote(vote), Act::Add(record)];
+        let with = |more: [Act; 3]| [&begun[..], &more].concat();
+        assert_eq!(own(&with([Act::Stamp, Act::Stamp, Act::Receipt(1)])), Some(6));
+        assert_eq!(own(&with([Act::Receipt(1), Act::Restart, Act::Stamp])), None);
     }
 
     /// A statement that the list does not have; an act that breaks a rule.
     #[test]
     fn not_met() {
-        let cluster = Cluster::new("premises", 3, 5);
+        let cluster = Keys::new("premises").cluster_from_0(3, 5, 4);
         let roster = Roster::read(&cluster.roster()).expect("a roster");
         let (_, submission) = past_and_submission(&cluster, &roster);
         let past = Past::of(&[Act::Raise(1)], 3, &roster.name).expect("a raise is allowed");

@@ -39,7 +39,7 @@ pub struct Replica {
     pub last_stamp: Option<u32>,
     pub log: Vec<Record>,
     pub cheats: Cheats,
-    /// What it has done so far. Declining and restarting change nothing, and are not kept.
+    /// What it has done so far, but for declining, which changes nothing.
     pub acts: Vec<Act>,
 }
 
@@ -70,8 +70,17 @@ impl Replica {
             Act::Add(record) => self.add(*record),
             Act::Stamp => self.stamp().is_some(),
             Act::Receipt(index) => self.receipt(*index).is_some(),
-            Act::Decline | Act::Restart => true,
+            Act::Decline => true,
+            Act::Restart => {
+                self.restart();
+                true
+            }
         }
+    }
+
+    /// All of its state outlives a restart.
+    pub fn restart(&mut self) {
+        self.acts.push(Act::Restart);
     }
 
     /// Raises the term, which never falls.

@@ -1,9 +1,10 @@
 //! The statements that a district's replicas have signed, and which submissions they allow.
 
 use super::{shuffle, Claim};
+use crate::leaves::Leaves;
 use crate::random::Random;
 use crate::roster::{mask_of, quorum, replicas_of};
-use crate::statement::{pointers, Position, Record, Vote};
+use crate::statement::{pointers, Position, Record, Statement, Vote};
 use std::collections::BTreeMap;
 
 type Key = (u32, u32, [u8; 32]);
@@ -15,20 +16,35 @@ pub struct Signed {
     votes: BTreeMap<Key, BTreeMap<u16, (Vote, u16)>>,
     stamps: BTreeMap<Key, u16>,
     receipts: BTreeMap<Key, u16>,
+    /// Each replica's leaves. They go with the key: lives and restarts of a replica count on, and
+    /// so do others who have its key.
+    leaves: BTreeMap<u16, Leaves<Statement>>,
 }
 
 impl Signed {
     pub fn vote(&mut self, replica: u16, vote: Vote) {
         let votes = self.votes.entry((vote.term, vote.last_index, vote.last_pointer)).or_default();
         votes.entry(vote.candidate).or_insert((vote, 0)).1 |= mask_of(&[replica]);
+        self.take_leaf(replica, Statement::Vote(vote));
     }
 
     pub fn stamp(&mut self, replica: u16, at: Position) {
         *self.stamps.entry(key(&at)).or_default() |= mask_of(&[replica]);
+        self.take_leaf(replica, Statement::Stamp(at));
     }
 
     pub fn receipt(&mut self, replica: u16, at: Position) {
         *self.receipts.entry(key(&at)).or_default() |= mask_of(&[replica]);
+        self.take_leaf(replica, Statement::Receipt(at));
+    }
+
+    fn take_leaf(&mut self, replica: u16, statement: Statement) {
+        self.leaves.entry(replica).or_default().of(statement);
+    }
+
+    /// The leaves that a replica has used.
+    pub fn leaves(&self, replica: u16) -> Leaves<Statement> {
+        self.leaves.get(&replica).cloned().unwrap_or_default()
     }
 
     /// Who has voted so.

@@ -3,7 +3,7 @@
 
 use super::*;
 use crate::audit::{compare, findings, Findings};
-use crate::submission::Submission;
+use crate::cluster::Keys;
 use crate::verdicts::Verdicts;
 
 /// How many pairs and forks there were, and how many charges by each rule.
@@ -29,23 +29,23 @@ impl Tally {
 }
 
 /// With signatures, through the whole audit.
-
 #[test]
 fn districts() {
     let mut random = Random::new(20);
     let mut verdicts = Verdicts::default();
     let mut tally = Tally::default();
+    let keys = Keys::new("districts");
     for n in [3, 4, 5] {
-        let cluster = Cluster::new("districts", n, 5);
-        let roster = cluster.roster();
         for round in 0..12 {
             let district = District::simulate(n, round % (n + 1), &mut random);
+            let cluster = keys.cluster_with(n, district.leaves());
+            let (roster, signer) = (cluster.roster(), district.signer(&cluster));
             let claims = district.claims(&mut random);
             for _ in 0..3 {
                 let Some(two) = two_of(&claims, &mut random) else {
                     break;
                 };
-                let [a, b] = [two.0, two.1].map(|claim| claim.draft(&cluster).bytes());
+                let [a, b] = [two.0, two.1].map(|claim| claim.draft(&signer).bytes());
                 let found = findings(&roster, &a, &b, &mut verdicts);
                 tally.count(&district, two, &found);
             }
@@ -70,7 +70,7 @@ fn many_districts() {
                 let Some(two) = two_of(&claims, &mut random) else {
                     break;
                 };
-                tally.count(&district, two, &compare(&unsigned(two.0), &unsigned(two.1)));
+                tally.count(&district, two, &compare(&two.0.unsigned(), &two.1.unsigned()));
             }
         }
         println!("n = {n}: {tally:?}");
@@ -91,7 +91,7 @@ fn honest_districts() {
         let claims = district.claims(&mut random);
         for a in &claims {
             for b in &claims {
-                let found = compare(&unsigned(a), &unsigned(b));
+                let found = compare(&a.unsigned(), &b.unsigned());
                 assert_eq!((found.fork, found.named()), (0, 0), "{a:?} {b:?}");
                 pairs += 1;
             }
@@ -99,11 +99,4 @@ fn honest_districts() {
     }
     println!("{pairs} pairs");
     assert!(pairs >= 5000);
-}
-
-fn unsigned(claim: &Claim) -> Submission {
-    let Claim { records, leaders, commit } = claim;
-    let Draft { records, leaders, stamps, commit, .. } =
-        Draft::unsigned([0; 16], records, leaders, *commit);
-    Submission { records, leaders, stamps, commit }
 }

@@ -1,5 +1,6 @@
 //! LMS keys and signatures (RFC 8554) to be checked: made from seeds, for tests only.
 
+pub mod chains;
 pub mod few;
 
 use super::{inner_value, leaf_value, Leaf, OneTimeType, TreeType};
@@ -40,18 +41,6 @@ impl OneTime {
             signature.extend(self.leaf.chain(i, 0, digit, self.secret(i)));
         }
         signature
-    }
-
-    /// Every value of every chain, from the first to the end.
-    fn chains(&self) -> Vec<Vec<Digest>> {
-        let chain = |i: usize| {
-            let mut values = vec![self.secret(i)];
-            for j in 0..self.kind.largest_digit() {
-                values.push(self.leaf.chain(i, j, j + 1, values[j as usize]));
-            }
-            values
-        };
-        (0..self.kind.p).map(chain).collect()
     }
 
     /// The sum in the checksum of the message's hash, to choose C by.
@@ -139,7 +128,7 @@ fn key(kind: &OneTimeType, tree: &TreeType, identifier: &[u8; 16], root: &Digest
 /// RFC 8554, 5.4: q, the one-time signature, the tree type and the path.
 fn join(q: u32, one_time_signature: &[u8], tree: &TreeType, path: &[Digest]) -> Vec<u8> {
     let (q, code) = (q.to_be_bytes(), tree.code.to_be_bytes());
-    [&q[..], one_time_signature, &code, path.as_flattened()].concat()
+    [&q[..], one_time_signature, &code, &path.concat()].concat()
 }
 
 #[cfg(test)]

@@ -5,24 +5,19 @@ mod messages;
 mod shapes;
 mod spoiled;
 
-use crate::Comparison;
+use super::number;
+use crate::call::{self, Case};
+use auditor::cases::Size;
 use auditor::lms::sign::OneTime;
-use auditor::lms::Verdict::{Bad, Good, Long};
+use auditor::lms::Verdict::{self, Bad, Good, Long};
 use auditor::lms::{OneTimeType, TreeType, KEY_LENGTH, N, ONE_TIME_TYPES, TREE_TYPES};
 use auditor::random::Random;
 use auditor::sha256::Digest;
 use std::ops::Range;
 
-/// The full set has the fixed seed, the small one the fresh.
-#[derive(Clone, Copy, PartialEq)]
-pub enum Size {
-    Full,
-    Small,
-}
-
 /// Every kind of input, from this seed.
-pub fn run(comparison: &mut Comparison, seed: u64, size: Size) {
-    let mut inputs = Inputs { comparison, random: Random::new(seed), size };
+pub fn run(seed: u64, size: Size, take: &mut dyn FnMut(&Case)) {
+    let mut inputs = Inputs { take, random: Random::new(seed), size };
     for one_time in &ONE_TIME_TYPES {
         for tree in &TREE_TYPES {
             inputs.signatures(one_time, tree);
@@ -43,8 +38,8 @@ pub fn run(comparison: &mut Comparison, seed: u64, size: Size) {
     inputs.past_32_bits();
 }
 
-/// The first bytes of one fixed sequence, for messages too long to print.
-pub fn pattern(length: usize) -> Vec<u8> {
+/// The first bytes of one fixed sequence, for long messages.
+fn pattern(length: usize) -> Vec<u8> {
     (0..length as u32).map(|i| (i.wrapping_mul(0x9e37_79b1) >> 24) as u8).collect()
 }
 
@@ -93,7 +88,7 @@ impl Made {
 
 /// Where inputs come from and where they go.
 struct Inputs<'a> {
-    comparison: &'a mut Comparison,
+    take: &'a mut dyn FnMut(&Case),
     random: Random,
     size: Size,
 }
@@ -152,18 +147,24 @@ impl Inputs<'_> {
     }
 
     fn good(&mut self, what: &str, made: &Made) {
-        let Made { key, message, signature, .. } = made;
-        self.comparison.expect(Good, &made.name(what), key, message, signature);
+        self.hand_on(what, made, Good);
     }
 
     fn bad(&mut self, what: &str, made: &Made) {
-        let Made { key, message, signature, .. } = made;
-        self.comparison.expect(Bad, &made.name(what), key, message, signature);
+        self.hand_on(what, made, Bad);
     }
 
     fn long(&mut self, what: &str, made: &Made) {
-        let Made { key, message, signature, .. } = made;
-        self.comparison.expect(Long, &made.name(what), key, message, signature);
+        self.hand_on(what, made, Long);
+    }
+
+    fn hand_on(&mut self, what: &str, made: &Made, verdict: Verdict) {
+        (self.take)(&Case {
+            name: made.name(what),
+            inputs: vec![&made.key, &made.message, &made.signature],
+            outputs: vec![],
+            expect: call::number(number(verdict)),
+        });
     }
 }
 

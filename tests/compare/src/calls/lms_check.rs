@@ -1,0 +1,59 @@
+//! `hirelog_lms_check`: the signature check.
+
+mod cases;
+
+use crate::call::{Call, Case, Input, Output, Shape};
+use auditor::cases::Size;
+use auditor::lms::{check, Verdict};
+use hirelog::sys::hirelog_lms_check;
+
+static SHAPE: Shape = Shape {
+    name: "lms_check",
+    inputs: &["key", "message", "signature"],
+    outputs: &[],
+    returns: &["number"],
+    numbers: &[0, 15, 16],
+    fewest: (20_000, 5000),
+    tool: None,
+};
+
+pub struct LmsCheck;
+
+impl Call for LmsCheck {
+    fn shape(&self) -> &'static Shape {
+        &SHAPE
+    }
+
+    fn cases(&self, seed: u64, size: Size, take: &mut dyn FnMut(&Case)) {
+        cases::run(seed, size, take);
+    }
+
+    fn library(&self, inputs: &[Input], _: &mut [Output]) -> Vec<u64> {
+        let [key, message, signature] = inputs else { unreachable!("three inputs") };
+        // SAFETY: as the harness says.
+        let number = unsafe {
+            hirelog_lms_check(
+                key.start(),
+                key.length(),
+                message.start(),
+                message.length(),
+                signature.start(),
+                signature.length(),
+            )
+        };
+        vec![number.into()]
+    }
+
+    fn auditor(&self, inputs: &[&[u8]], _: &mut [&mut [u8]]) -> Vec<u64> {
+        vec![number(check(inputs[0], inputs[1], inputs[2]))]
+    }
+}
+
+/// The number that the library has for a verdict (document 01, What stops an audit).
+fn number(verdict: Verdict) -> u64 {
+    match verdict {
+        Verdict::Good => 0,
+        Verdict::Bad => 15,
+        Verdict::Long => 16,
+    }
+}
