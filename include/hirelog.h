@@ -131,11 +131,13 @@ uint32_t hirelog_lms_check(const uint8_t *key, size_t key_len, const uint8_t *me
  *                 (1 byte) and the lowest term for it (4 bytes), 0 and 0 if it is not named.
  * After a refusal bytes 2 to 52 are 0. The rules, each on one statement from the first submission
  * and one from the second, and the row's term:
- *   1  votes for two candidates in one term; that term;
- *   2  stamps of one term on logs that differ in a record that both cover; that term;
- *   3  a receipt in the first's commit certificate, and a vote of a higher term in the second for a
- *      log staler than the record at that index (term compared first, then index); the vote's term;
- *   4  rule 3 with the submissions exchanged.
+ *   1  HIRELOG_RULE_TWO_VOTES: votes for two candidates in one term; that term;
+ *   2  HIRELOG_RULE_TWO_STAMPS: stamps of one term on logs that differ in a record that both cover;
+ *      that term;
+ *   3  HIRELOG_RULE_STALE_VOTE: a receipt in the first's commit certificate, and a vote of a higher
+ *      term in the second for a log staler than the record at that index (term compared first, then
+ *      index); the vote's term;
+ *   4  HIRELOG_RULE_STALE_VOTE_EXCHANGED: rule 3 with the submissions exchanged.
  *
  * The caller sees to it that
  *   - roster points to roster_len readable bytes, first to first_len, second to second_len, and
