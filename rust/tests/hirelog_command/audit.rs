@@ -253,6 +253,7 @@ fn exchanged() {
         let told = format!("{} looks like a roster, and {} does not", quoted(r), quoted(files[0]));
         let run = expect(&files.map(PathBuf::clone), lines, 2);
         run.tells(&[&told, "they seem to be exchanged"]);
+        assert_eq!(run.err.lines().count(), 3, "no hint of counts: {run:?}");
     }
     let told = format!("{} looks like a submission, and the roster belongs there", quoted(f));
     expect(&[f, f, s].map(PathBuf::clone), lines, 2).tells(&[&told]);
