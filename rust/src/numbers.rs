@@ -20,10 +20,14 @@ impl Number {
     }
 }
 
-const ROSTER_AGAIN: &str = "Ask whoever made the roster for a right one.";
+const ROSTER_AGAIN: &str = "Copy it again from where it came. If that does not help, ask whoever \
+    made the roster for a right one.";
 const COPY_AGAIN: &str = "Copy it again from where it came. If that does not help, ask the board \
     whose submission it is for another.";
-const SEND_AGAIN: &str = "Ask the board whose submission it is for another.";
+/// For what the roster's keys decide too.
+const COPY_BOTH_AGAIN: &str = "Copy the submission and the roster again from where they came, and \
+    see that the roster is the district's present one. If that does not help, ask the board whose \
+    submission it is for another.";
 
 /// All numbers, from 0 on.
 pub const NUMBERS: &[Number] = &[
@@ -46,8 +50,8 @@ pub const NUMBERS: &[Number] = &[
         number: 2,
         name: "HIRELOG_ROSTER_SIZE",
         word: "roster size",
-        meaning: "The roster has not the size of one: 18 bytes, and 56 for each of its 3 to 9 \
-            boards.",
+        meaning: "Its size does not go with the number of boards that its bytes 16 and 17 say \
+            (3 to 9): 18 bytes, and 56 for each board.",
         advice: "See that it is the district's roster, and copy it again from where it came.",
     },
     Number {
@@ -77,22 +81,25 @@ pub const NUMBERS: &[Number] = &[
         name: "HIRELOG_VERSION",
         word: "version",
         meaning: "The submission does not end in version 1: it is of another version, or was cut \
-            short, or has bytes added.",
+            short, or has bytes added, or it is no submission at all (a zip, a picture, a text).",
         advice: COPY_AGAIN,
     },
     Number {
         number: 7,
         name: "HIRELOG_CLUSTER",
         word: "cluster",
-        meaning: "The submission is of another district than the roster.",
-        advice: "Take the roster and both submissions from one district.",
+        meaning:
+            "The submission is of another district than the roster, or a byte of the name was \
+            damaged.",
+        advice: "Take the roster and both submissions from one district. If they are, copy them \
+            again from where they came.",
     },
     Number {
         number: 8,
         name: "HIRELOG_COUNTS",
         word: "counts",
         meaning: "The submission says that it has more than 4,096 records or 64 terms.",
-        advice: SEND_AGAIN,
+        advice: COPY_AGAIN,
     },
     Number {
         number: 9,
@@ -100,7 +107,7 @@ pub const NUMBERS: &[Number] = &[
         word: "layout",
         meaning: "The parts of the submission do not stand where its last 44 bytes say: it is \
             damaged, or its keys are of another height than the roster's.",
-        advice: COPY_AGAIN,
+        advice: COPY_BOTH_AGAIN,
     },
     Number {
         number: 10,
@@ -108,21 +115,21 @@ pub const NUMBERS: &[Number] = &[
         word: "signers",
         meaning: "A certificate in the submission is signed by too few boards, or by one that \
             the roster does not have.",
-        advice: SEND_AGAIN,
+        advice: COPY_AGAIN,
     },
     Number {
         number: 11,
         name: "HIRELOG_TERM_ORDER",
         word: "term order",
         meaning: "The term of a record in the submission is 0, or below that of the record before.",
-        advice: SEND_AGAIN,
+        advice: COPY_AGAIN,
     },
     Number {
         number: 12,
         name: "HIRELOG_TERM_COUNT",
         word: "term count",
         meaning: "The submission has not one leader certificate for each term of its log.",
-        advice: SEND_AGAIN,
+        advice: COPY_AGAIN,
     },
     Number {
         number: 13,
@@ -130,14 +137,14 @@ pub const NUMBERS: &[Number] = &[
         word: "leader",
         meaning: "A leader certificate in the submission does not go with its log, or its \
             candidate is no board, or did not sign it.",
-        advice: SEND_AGAIN,
+        advice: COPY_AGAIN,
     },
     Number {
         number: 14,
         name: "HIRELOG_COMMIT_INDEX",
         word: "commit index",
         meaning: "The commit certificate of the submission names no record of its log.",
-        advice: SEND_AGAIN,
+        advice: COPY_AGAIN,
     },
     Number {
         number: 15,
@@ -145,7 +152,7 @@ pub const NUMBERS: &[Number] = &[
         word: "signature",
         meaning: "A signature is bad: it was not made with its board's key for the statement \
             that it stands on, or was damaged since.",
-        advice: COPY_AGAIN,
+        advice: COPY_BOTH_AGAIN,
     },
     Number {
         number: 16,

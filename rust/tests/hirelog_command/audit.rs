@@ -15,8 +15,8 @@ fn lines_of(object: &Value) -> String {
     lines
 }
 
-/// All ways to ask for an audit give these lines and this status, with the number's texts, and say
-/// the same on stderr, which is given.
+/// All ways to ask for an audit give these lines and this status, with the number's texts; the plain
+/// run is given.
 fn expect(files: &[PathBuf; 3], lines: &str, status: i32) -> Run {
     let plain = with_options("audit", &[], files);
     assert_eq!((plain.out.as_str(), plain.status), (lines, status), "{plain:?}");
@@ -26,8 +26,9 @@ fn expect(files: &[PathBuf; 3], lines: &str, status: i32) -> Run {
     assert_eq!(object.get("word").text(), number.word);
 
     let explained = with_options("audit", &["--explain"], files);
-    assert_eq!((explained.status, &explained.err), (status, &plain.err));
-    assert!(explained.out.starts_with(&format!("{lines}\n")), "{explained:?}");
+    assert_eq!(explained.status, status);
+    explained.shortens(&plain);
+    assert!(explained.out.starts_with(&format!("{lines}\nWhat ")), "{explained:?}");
     assert!(explained.out.lines().all(|line| line.chars().count() <= 80 || line.contains('/')));
     let mut after = explained.out[lines.len()..].lines();
     let like_a_line =
@@ -50,7 +51,12 @@ fn expect(files: &[PathBuf; 3], lines: &str, status: i32) -> Run {
 fn json_of(files: &[PathBuf; 3], plain: &Run) -> Value {
     let [short, long] = [&["--json"][..], &["--json", "--explain"]].map(|options| {
         let run = with_options("audit", options, files);
-        assert_eq!((run.status, &run.err), (plain.status, &plain.err));
+        assert_eq!(run.status, plain.status);
+        if options.len() == 1 {
+            assert_eq!(run.err, plain.err);
+        } else {
+            run.shortens(plain);
+        }
         json::read(&run.out)
     });
     let names = ["command", "number", "word", "place", "fork", "named", "files", "hints"];
@@ -81,7 +87,7 @@ fn samples() {
         let plain = expect(&sample(name), &lines, status);
         let whole = with_options("audit", &[], &[folder]);
         assert_eq!((&whole.out, whole.status, &whole.err), (&plain.out, status, &plain.err));
-        assert_eq!(plain.err.is_empty(), name != "empty", "{plain:?}");
+        assert_eq!(plain.err, "", "two empty logs may have the same bytes");
     }
 }
 
@@ -110,6 +116,11 @@ fn submission_numbers() {
         let file = data.join(format!("n{number:02}"));
         let row = Number::of(number).expect("a row");
         let told = format!("number {number}, {}. {}", row.word, row.meaning);
+        let copied = row.advice.starts_with("Copy ") || number == 7;
+        assert!(copied && row.advice.contains(" again from where "), "{}", row.advice);
+        let both = row.advice.contains("Copy the submission and the roster again");
+        assert_eq!(both, row.advice.contains("roster is the district's present one"));
+        assert_eq!(both, [9, 15].contains(&number), "{}", row.advice);
         let places =
             [(1, "first", [&roster, &file, &accepted]), (2, "second", [&roster, &accepted, &file])];
         for (place, name, files) in places {
@@ -134,6 +145,7 @@ fn roster_numbers() {
     for (number, bytes) in [(2, &bytes[1..]), (3, &other_type[..]), (4, &twins)] {
         let roster = folder.put("roster", bytes);
         let word = NUMBERS[number].word;
+        assert!(NUMBERS[number].advice.to_lowercase().contains("copy it again from where it came"));
         let run = expect(
             &[roster.clone(), first.clone(), second.clone()],
             &format!("refusal {number} in 0\nfork 0\n"),
@@ -146,26 +158,88 @@ fn roster_numbers() {
     }
 }
 
-/// A roster that is longer or shorter than it says.
+/// A roster whose size does not go with what it says: cut, lengthened, or with a damaged count.
 #[test]
 fn roster_counts() {
     let folder = Folder::new("roster_counts");
     let [roster, first, second] = sample("one_leader");
     let bytes = fs::read(roster).expect("a roster");
-    let added = [&bytes[..], b"\n"].concat();
+    let counting = |count: u8, size: usize| {
+        let mut bytes = bytes.clone();
+        bytes[17] = count;
+        bytes.resize(size, b'\n');
+        bytes
+    };
+    let damaged = ", or that number is damaged\n";
     for (bytes, told) in [
         (
-            &added[..],
-            "3 boards, and would then have 186 bytes, but it has 187 bytes: bytes were added",
+            counting(3, 187),
+            ["would then have 186 bytes, but it has 187 bytes: bytes seem", damaged],
+        ),
+        (counting(3, 100), ["186 bytes, but it has 100 bytes: it seems to be cut short", damaged]),
+        (counting(5, 186), ["298 bytes, but it has 186 bytes: it seems to be cut short", damaged]),
+        (counting(2, 186), ["it has 2 boards, and a roster has 3 to 9", "its size goes with 3, "]),
+        (
+            counting(10, 522),
+            ["it has 10 boards, and", "its size goes with 9, so that number seems"],
         ),
         (
-            &bytes[..100],
-            "3 boards, and would then have 186 bytes, but it has 100 bytes: it was cut short",
+            counting(1, 200),
+            ["it has 1 board, and", ": it seems to be another file, or that number"],
         ),
+        (counting(3, 17), ["has 17 bytes, and a roster 186 at least", "it seems to be cut short"]),
     ] {
-        let roster = folder.put("roster", bytes);
-        expect(&[roster, first.clone(), second.clone()], "refusal 2 in 0\nfork 0\n", 2)
-            .tells(&[told]);
+        let roster = folder.put("roster", &bytes);
+        let files = [roster, first.clone(), second.clone()];
+        let run = expect(&files, "refusal 2 in 0\nfork 0\n", 2);
+        run.tells(&told);
+        run.tells(&["roster size. Its size does not go with the number of boards"]);
+        assert_eq!(run.err.lines().count(), 3, "one hint: {run:?}");
+    }
+}
+
+/// A damaged key of the roster shows as a bad signature in both submissions; a bad signature in one
+/// of them, or in one that was given twice, says nothing of the roster.
+#[test]
+fn damaged_key() {
+    let folder = Folder::new("damaged_key");
+    let [roster, first, second] = sample("one_leader");
+    let damaged = |name: &str, file: &Path, place: usize| {
+        let mut bytes = fs::read(file).expect("a sample");
+        bytes[place] ^= 1;
+        folder.put(name, &bytes)
+    };
+    let key = damaged("roster", &roster, 18 + 40);
+    let bad = damaged("bad", &first, 36 + 48 + 100);
+    let lines = "refusal 15 in 1\nfork 0\n";
+    let told = format!("both submissions fail: look at the roster {} first", quoted(&key));
+    expect(&[key.clone(), first.clone(), second.clone()], lines, 2).tells(&[&told]);
+    expect(&[key.clone(), second.clone(), first.clone()], lines, 2).tells(&[&told]);
+    for files in [[roster, bad, second], [key, first.clone(), first]] {
+        let run = expect(&files, lines, 2);
+        assert!(!run.err.contains("both submissions"), "{run:?}");
+    }
+}
+
+/// Number 5 says on which side, 6 that the file may be no submission, 7 that a name may be damaged.
+#[test]
+fn said_of_a_submission() {
+    let folder = Folder::new("said_of_a_submission");
+    let [roster, first, second] = sample("one_leader");
+    let short = folder.put("short", &[0; 43]);
+    let text = folder.put("text", &[b'a'; 44]);
+    let mut bytes = fs::read(&first).expect("a sample");
+    let name = bytes.len() - 44;
+    bytes[name] ^= 1;
+    let renamed = folder.put("renamed", &bytes);
+    for (file, number, told) in [
+        (&short, 5, "2,097,152 bytes. This one has fewer than 44.\n"),
+        (&PathBuf::from("/dev/zero"), 5, "2,097,152 bytes. This one has more than 2,097,152.\n"),
+        (&text, 6, "or it is no submission at all"),
+        (&renamed, 7, "or a byte of the name was damaged"),
+    ] {
+        let lines = format!("refusal {number} in 1\nfork 0\n");
+        expect(&[roster.clone(), file.clone(), second.clone()], &lines, 2).tells(&[told]);
     }
 }
 
@@ -179,6 +253,7 @@ fn exchanged() {
         let told = format!("{} looks like a roster, and {} does not", quoted(r), quoted(files[0]));
         let run = expect(&files.map(PathBuf::clone), lines, 2);
         run.tells(&[&told, "they seem to be exchanged"]);
+        assert_eq!(run.err.lines().count(), 3, "no hint of counts: {run:?}");
     }
     let told = format!("{} looks like a submission, and the roster belongs there", quoted(f));
     expect(&[f, f, s].map(PathBuf::clone), lines, 2).tells(&[&told]);

@@ -22,12 +22,13 @@ fn expect(files: &[PathBuf; 3], answer: &str, number: u64) -> Run {
     assert_eq!(plain.err.is_empty(), number == 0, "{plain:?}");
 
     let explained = with_options("check", &["--explain"], files);
-    assert_eq!((explained.status, &explained.err), (status, &plain.err));
+    assert_eq!(explained.status, status);
+    explained.shortens(&plain);
     assert!(explained.out.starts_with(&format!("{answer}\n\nWhat \"{answer}\" says: ")));
     assert!(explained.out.contains("\nWhat to do: "));
 
     let run = with_options("check", &["--json", "--explain"], files);
-    assert_eq!((run.status, &run.err), (status, &plain.err));
+    assert_eq!((run.status, &run.err), (status, &explained.err));
     let object = json::read(&run.out);
     let names = ["command", "number", "word", "answer", "files", "hints", "explanation"];
     assert_eq!(object.names(), names);
@@ -52,7 +53,7 @@ fn good_and_bad() {
     let other = folder.put("other", b"another message");
     let run = expect(&[key.clone(), other.clone(), signature.clone()], "bad", 15);
     run.tells(&[&quoted(&key), &quoted(&other), &quoted(&signature), "number 15, signature"]);
-    assert_eq!(run.err.lines().count(), 1, "no hint: {run:?}");
+    assert_eq!(run.err.lines().count(), 2, "no hint: {run:?}");
     let run = expect(&[sample("empty")[0].clone(), message, signature], "bad", 15);
     run.tells(&["looks like a roster: cut the 56 bytes"]);
 }
@@ -76,7 +77,9 @@ fn orders() {
         [signature, key, message],
         [signature, message, key],
     ] {
-        expect(&files.map(PathBuf::clone), "bad", 15).tells(&[&told]);
+        let run = expect(&files.map(PathBuf::clone), "bad", 15);
+        run.tells(&[&told]);
+        assert_eq!(run.err.lines().count(), 3, "no other hint: {run:?}");
     }
 }
 
@@ -92,7 +95,17 @@ fn sizes() {
         let run = expect(&files, "bad", 15);
         run.tells(&[&format!("{} is empty", quoted(&empty))]);
     }
-    let [_, message, signature] = &files;
+    let [key, message, signature] = &files;
+    let bytes = fs::read(signature).expect("a signature");
+    for size in [1291, 1293] {
+        let mut bytes = bytes.clone();
+        bytes.resize(size, 0);
+        let other = folder.put("other", &bytes);
+        let told =
+            format!("has 1,{} bytes, and a signature under this key has 1,292\n", size - 1000);
+        let run = expect(&[key.clone(), message.clone(), other], "bad", 15);
+        run.tells(&[&told]);
+    }
     let long = folder.put("long", &[0; 57]);
     let run = expect(&[long, message.clone(), signature.clone()], "bad", 15);
     run.tells(&["has 57 bytes, and a key has 56"]);
@@ -115,5 +128,6 @@ fn long_messages() {
     let short = folder.put("short", b"");
     expect(&[endless.clone(), short.clone(), signature], "bad", 15)
         .tells(&["\"/dev/zero\" has more than 16,777,216 bytes, and a key has 56"]);
-    expect(&[key, short, endless], "bad", 15);
+    expect(&[key, short, endless], "bad", 15)
+        .tells(&["more than 16,777,216 bytes, and a signature under this key has 1,292\n"]);
 }

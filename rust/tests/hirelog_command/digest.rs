@@ -56,7 +56,9 @@ fn long_files() {
         assert_eq!(object.get("digest"), &Value::Null);
         assert_eq!(object.get("number"), &Value::Number(16));
         let explained = with_options("sha256", &["--explain"], &[&file]);
-        assert!(explained.out.starts_with("\nWhat \"number 16\" says: "), "{explained:?}");
+        assert!(explained.out.starts_with("Why there is no line: The message has more"));
+        assert!(explained.out.contains("sha256sum") && !explained.out.contains("\n\n"));
+        explained.shortens(&with_options("sha256", &[], &[&file]));
     }
 }
 

@@ -56,7 +56,7 @@ fn folders() {
     unreadable(vec![vec!["audit".into(), none]], &[&told]);
 }
 
-/// A folder that lacks files: each of them is named, and no other.
+/// A folder that lacks files: one message names each of them, and no other.
 #[test]
 fn incomplete_folder() {
     let folder = Folder::new("incomplete_folder");
@@ -64,13 +64,64 @@ fn incomplete_folder() {
     let names = ["roster", "first", "second"];
     for present in 0..3 {
         let run = audit();
-        let missing: Vec<String> =
-            names[present..].iter().map(|name| quoted(&folder.0.join(name))).collect();
-        run.fails(74, &missing.iter().map(String::as_str).collect::<Vec<_>>());
-        assert_eq!(run.err.lines().count(), 3 - present, "{run:?}");
+        let missing = [
+            "roster, first or second, with exactly these names: rename them",
+            "first or second, with exactly these names: rename them",
+            "second, with exactly this name: rename it",
+        ];
+        let told = format!("the folder {} has no file {}", quoted(&folder.0), missing[present]);
+        run.fails(74, &[&told, ", or name the three files (hirelog audit ROSTER FIRST SECOND)\n"]);
+        assert_eq!(run.err.lines().count(), 1, "{run:?}");
         fs::copy(&sample("one_leader")[present], folder.0.join(names[present])).expect("copied");
     }
     assert_eq!(audit().status, 1);
+    fs::rename(folder.0.join("first"), folder.0.join("First")).expect("renamed");
+    audit().fails(74, &["has no file first, with exactly this name"]);
+    std::os::unix::fs::symlink("nowhere", folder.0.join("first")).expect("a link");
+    audit().fails(74, &[&format!("there is no file {}", quoted(&folder.0.join("first")))]);
+}
+
+/// What would be said more than once is said once: of one name, and of several empty files.
+#[test]
+fn once() {
+    let folder = Folder::new("once");
+    let none = folder.0.join("none");
+    for name in ["audit", "check"] {
+        let run = with_options(name, &[], &[&none, &none, &none]);
+        run.fails(74, &["there is no file"]);
+        assert_eq!(run.err.lines().count(), 1, "{run:?}");
+    }
+    let [a, b, c] = ["a", "b", "c"].map(|name| folder.put(name, b""));
+    let [one, two, three] = [&a, &b, &c].map(|file| quoted(file));
+    for (files, told) in [
+        ([&a, &a, &a], format!("{one} is empty: copy it again")),
+        ([&a, &b, &b], format!("{one} and {two} are empty: copy them again")),
+        ([&a, &b, &c], format!("{one}, {two} and {three} are empty: copy them again")),
+    ] {
+        let run = with_options("audit", &[], &files);
+        run.tells(&[&told]);
+        assert_eq!(run.err.lines().count(), 3, "{run:?}");
+    }
+    let [roster, ..] = sample("one_leader");
+    let run = with_options("audit", &["--json"], &[&roster, &roster, &roster]);
+    let object = crate::json::read(&run.out);
+    assert_eq!(object.get("hints").list().len(), 1, "{run:?}");
+}
+
+/// A name that a shell parted at its blanks.
+#[test]
+fn blanks() {
+    let folder = Folder::new("blanks");
+    let run = |arguments: &[&str]| {
+        Run::of(command(arguments).current_dir(&folder.0).output().expect("runs"))
+    };
+    let told = "\"Depot Koeln 1\" is there: a name with blanks needs quotes";
+    let lost = run(&["audit", "Depot", "Koeln", "1"]);
+    assert!(lost.status == 74 && !lost.err.contains("blanks"), "{lost:?}");
+    fs::create_dir(folder.0.join("Depot Koeln 1")).expect("a folder");
+    run(&["audit", "Depot", "Koeln", "1"]).fails(74, &[told]);
+    run(&["sha256", "Depot", "Koeln", "1"]).fails(64, &[told]);
+    run(&["audit", "Depot Koeln 1"]).fails(74, &["the folder \"Depot Koeln 1\" has no file"]);
 }
 
 /// Files that may not be read. Root may read all, so that the command is then run as another user.
@@ -80,15 +131,22 @@ fn forbidden() {
     let file = folder.put("secret", b"x");
     fs::set_permissions(&file, fs::Permissions::from_mode(0o000)).expect("permissions");
     let is_root = fs::File::open(&file).is_ok();
-    for arguments in in_each_place(&file) {
+    let locked = folder.0.join("locked");
+    fs::create_dir(&locked).expect("a folder");
+    fs::set_permissions(&locked, fs::Permissions::from_mode(0o600)).expect("permissions");
+    let told_of_file = format!("{} may not be read (permission denied): ask", quoted(&file));
+    let told_of_folder = format!("the folder {} may not be read (permission", quoted(&locked));
+    let runs = in_each_place(&file).into_iter().map(|arguments| (arguments, &told_of_file));
+    for (arguments, told) in runs.chain([(vec!["audit".into(), locked], &told_of_folder)]) {
         let mut run = command(&arguments);
         if is_root {
             run.uid(65534).gid(65534);
         }
         match run.output() {
             Ok(output) => {
-                let told = format!("{} may not be read (permission denied): ask", quoted(&file));
-                Run::of(output).fails(74, &[&told]);
+                let run = Run::of(output);
+                run.fails(74, &[told]);
+                assert_eq!(run.err.lines().count(), 1, "{run:?}");
             }
             Err(error) if is_root => {
                 println!("note: not tried, for another user cannot run the command: {error}");

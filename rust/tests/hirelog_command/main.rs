@@ -44,6 +44,19 @@ impl Run {
         }
     }
 
+    /// With --explain the messages are the first of this plain run's, without the meaning; and none
+    /// where nothing was refused. The plain run's last says what to do about a refusal.
+    fn shortens(&self, plain: &Run) {
+        if plain.status != 2 {
+            assert!(self.err.is_empty() && !plain.err.contains("--explain"), "{self:?} {plain:?}");
+            return;
+        }
+        let short = self.err.strip_suffix('\n').expect("a line");
+        assert!(!short.contains('\n') && plain.err.starts_with(short), "{self:?} {plain:?}");
+        assert!(short.contains(": number ") && short.ends_with(char::is_alphabetic), "{self:?}");
+        assert!(plain.err.ends_with("\nhirelog: for what to do: add --explain\n"), "{plain:?}");
+    }
+
     /// The answer with its folded lines put together again.
     fn unfolded(&self) -> String {
         self.out.replace("\n    ", " ")

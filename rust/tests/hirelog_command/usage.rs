@@ -4,18 +4,26 @@ use crate::*;
 
 #[test]
 fn wrong_uses() {
-    let uses: [(&[&str], &str); 14] = [
+    let uses: [(&[&str], &str); 22] = [
         (&[], "name a command: audit, check, sha256"),
         (&["adit", "x"], "there is no command \"adit\", but audit, check, sha256"),
         (&[""], "there is no command \"\""),
-        (&["--explain", "audit", "x"], "there is no command \"--explain\""),
+        (&["--explain", "audit", "x"], "stand after the command: hirelog audit --explain x\n"),
+        (&["--json", "--", "check", "x y", "-"], ": hirelog check --json -- \"x y\" -\n"),
+        (&["--explain"], "options stand after the command: name one first: audit, check, sha256"),
+        (&["--explain", "x"], "options stand after the command: name one first"),
+        (&["--loud", "audit", "x"], "there is no option \"--loud\""),
+        (&["help", "adit"], "there is no command \"adit\", but audit, check, sha256"),
+        (&["audit", "-"], "standard input is not read, but /dev/stdin can be named"),
+        (&["check", "a", "-", "b"], "standard input is not read, but /dev/stdin can be named"),
+        (&["sha256", "-"], "standard input is not read, but /dev/stdin can be named"),
         (&["audit"], "hirelog audit takes FOLDER or ROSTER FIRST SECOND, and 0 names were given"),
-        (&["audit", "a", "b"], "and 2 names were given"),
+        (&["audit", "a", "b"], "and 2 names were given (a name with blanks needs quotes)\n"),
         (&["audit", "a", "b", "c", "d"], "and 4 names were given"),
         (&["audit", "--loud", "a"], "there is no option \"--loud\""),
         (&["audit", "a", "-x"], "there is no option \"-x\""),
         (&["audit", "a", "", "c"], "a file's name is empty"),
-        (&["check", "a"], "hirelog check takes KEY MESSAGE SIGNATURE, and 1 name was given"),
+        (&["check", "a"], "hirelog check takes KEY MESSAGE SIGNATURE, and 1 name was given\n"),
         (&["check", "--json", "a", "b", "c", "d"], "and 4 names were given"),
         (&["sha256"], "hirelog sha256 takes FILE, and 0 names were given"),
         (&["sha256", "a", "b"], "and 2 names were given"),
@@ -43,6 +51,25 @@ fn options() {
     run(&["sha256", "--", "--help"]).fails(74, &["there is no file \"--help\""]);
 }
 
+/// The version is the package's.
+#[test]
+fn version() {
+    for argument in ["version", "--version"] {
+        let run = hirelog(&[argument]);
+        let line = format!("hirelog {}\n", env!("CARGO_PKG_VERSION"));
+        assert_eq!((run.status, run.out, run.err), (0, line, String::new()));
+    }
+}
+
+/// Standard input, by its name.
+#[test]
+fn standard_input() {
+    let file = fs::File::open(&sample("one_leader")[0]).expect("a sample");
+    let run = command(&["sha256", "/dev/stdin"]).stdin(file).output().expect("runs");
+    let whole = with_options("sha256", &[], &sample("one_leader")[..1]);
+    assert_eq!(Run::of(run).out[..64], whole.out[..64]);
+}
+
 /// Each help says how the command is used and what its exit statuses mean.
 #[test]
 fn help() {
@@ -50,9 +77,12 @@ fn help() {
     let check = ["hirelog check [--explain] [--json] KEY MESSAGE SIGNATURE", "good", "bad"];
     let digest = ["hirelog sha256 [--explain] [--json] FILE"];
     let all = [&audit[..], &check[..1], &digest].concat();
-    let helps: [(&[&str], &[&str], &[u8]); 6] = [
+    let helps: [(&[&str], &[&str], &[u8]); 9] = [
         (&["--help"], &all, &[0, 1, 2]),
         (&["-h"], &all, &[0, 1, 2]),
+        (&["help"], &all, &[0, 1, 2]),
+        (&["help", "audit"], &audit, &[0, 1, 2]),
+        (&["help", "sha256"], &digest, &[0, 2]),
         (&["audit", "--help"], &audit, &[0, 1, 2]),
         (&["check", "--help"], &check, &[0, 2]),
         (&["sha256", "--help"], &digest, &[0, 2]),

@@ -30,6 +30,14 @@ pub struct Remark {
     pub advice: String,
 }
 
+/// For stderr: which file was refused, with which number; and why, where nothing else says it.
+pub struct RefusedFile {
+    /// A sentence without its full stop.
+    pub told: String,
+    /// Nothing, or whole sentences.
+    pub why: String,
+}
+
 /// What a command comes to.
 pub struct Answer {
     pub status: Status,
@@ -38,8 +46,7 @@ pub struct Answer {
     /// The same as members of a JSON object, each value as JSON.
     pub members: Vec<(&'static str, String)>,
     pub remarks: Vec<Remark>,
-    /// For a refusal, which file and why.
-    pub refused: Option<String>,
+    pub refused: Option<RefusedFile>,
     /// What may have gone wrong with the files.
     pub hints: Vec<String>,
 }
@@ -52,14 +59,17 @@ impl Answer {
     pub fn text(&self, explain: bool) -> Vec<u8> {
         let mut text = self.lines.clone();
         if explain {
-            for remark in &self.remarks {
-                let meaning = format!("What \"{}\" says: {}", remark.line, remark.meaning);
-                let advice = format!("What to do: {}", remark.advice);
-                text.extend(format!("\n{}{}", fold(&meaning), fold(&advice)).into_bytes());
-            }
-            for hint in &self.hints {
-                text.extend(format!("\n{}", fold(&format!("Hint: {hint}."))).into_bytes());
-            }
+            let remarks = self.remarks.iter().map(|remark| {
+                let about = match self.lines.is_empty() {
+                    true => "Why there is no line".into(),
+                    false => format!("What \"{}\" says", remark.line),
+                };
+                let meaning = format!("{about}: {}", remark.meaning);
+                fold(&meaning) + &fold(&format!("What to do: {}", remark.advice))
+            });
+            let hints = self.hints.iter().map(|hint| fold(&format!("Hint: {hint}.")));
+            let parts = remarks.chain(hints).collect::<Vec<_>>().join("\n");
+            text.extend(if text.is_empty() { "" } else { "\n" }.bytes().chain(parts.bytes()));
         }
         text
     }
@@ -75,10 +85,39 @@ impl Answer {
         (json::object(&members) + "\n").into_bytes()
     }
 
-    /// What goes to stderr.
-    pub fn messages(&self) -> Vec<String> {
-        self.refused.iter().chain(&self.hints).cloned().collect()
+    /// What goes to stderr: with an explanation, which has all the rest, only what was refused.
+    pub fn messages(&self, explain: bool) -> Vec<String> {
+        let Some(refused) = &self.refused else {
+            return if explain { Vec::new() } else { self.hints.clone() };
+        };
+        if explain {
+            return vec![refused.told.clone()];
+        }
+        let mut messages = vec![refused.whole()];
+        messages.extend(self.hints.iter().cloned());
+        messages.push("for what to do: add --explain".into());
+        messages
     }
+}
+
+impl RefusedFile {
+    pub fn whole(&self) -> String {
+        match self.why.is_empty() {
+            true => self.told.clone(),
+            false => format!("{}. {}", self.told, self.why),
+        }
+    }
+}
+
+/// Each text once, where it stands first.
+pub fn once(texts: Vec<String>) -> Vec<String> {
+    let mut kept: Vec<String> = Vec::new();
+    for text in texts {
+        if !kept.contains(&text) {
+            kept.push(text);
+        }
+    }
+    kept
 }
 
 impl Remark {

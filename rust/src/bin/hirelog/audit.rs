@@ -1,12 +1,12 @@
 //! hirelog audit: two submissions against a roster.
 
-use crate::answer::{Answer, Failure, Remark, Status};
-use crate::files::{in_folder, read_all, Input};
-use crate::formats::SUBMISSION_MAX;
+use crate::answer::{Answer, Failure, RefusedFile, Remark, Status};
+use crate::files::{grouped, in_folder, read_all, Input};
+use crate::formats::{SUBMISSION_MAX, SUBMISSION_MIN};
 use crate::usage::{wrong_count, Command};
 use crate::{hints, json};
 use hirelog::numbers::Number;
-use hirelog::{Findings, Place, Refused};
+use hirelog::{Findings, Place, Refusal, Refused};
 use std::path::PathBuf;
 
 pub const COMMAND: Command = Command {
@@ -44,11 +44,14 @@ const FILES: [&str; 3] = ["roster", "first", "second"];
 /// What each of them is, for a sentence.
 const SUBJECTS: [&str; 3] = ["roster", "first submission", "second submission"];
 
+/// What can be done about a folder that has not these files.
+const INSTEAD: &str = "name the three files (hirelog audit ROSTER FIRST SECOND)";
+
 /// Audits a folder, or three files. Whatever is longer than a submission may be gets the number of
 /// its size: 2 for the roster, 5 for a submission.
 fn run(operands: &[PathBuf]) -> Result<Answer, Failure> {
     let paths = match operands {
-        [folder] => in_folder(folder, FILES)?,
+        [folder] => in_folder(folder, FILES, INSTEAD)?,
         [roster, first, second] => [roster.clone(), first.clone(), second.clone()],
         _ => return Err(wrong_count(&COMMAND, operands.len())),
     };
@@ -92,14 +95,18 @@ fn refusal(files: &[Input; 3], refused: &Refused) -> Answer {
     let (number, place) = (u32::from(refused.refusal.number()), refused.place);
     let lines = [format!("refusal {number} in {}", place as u8), "fork 0".into()];
     let mut about_number = number_remark(&lines[0], number);
-    let why = format!(
-        "{} {} was refused: number {number}, {}. {}",
+    let file = &files[place as usize];
+    let mut why = about_number.meaning;
+    if refused.refusal == Refusal::Size {
+        why += &which_side(file);
+    }
+    let told = format!(
+        "{} {} was refused: number {number}, {}",
         SUBJECTS[place as usize],
-        files[place as usize].described(),
-        refused.refusal.word(),
-        about_number.meaning
+        file.described(),
+        refused.refusal.word()
     );
-    about_number.meaning = format!("The {why}");
+    about_number.meaning = format!("The {told}. {why}");
     let about_fork = Remark {
         line: lines[1].clone(),
         meaning: "After a refusal nothing is compared, so that this 0 says nothing of the logs. \
@@ -112,8 +119,17 @@ fn refusal(files: &[Input; 3], refused: &Refused) -> Answer {
         lines: joined(&lines),
         members: members(files, number, place, None),
         remarks: vec![about_number, about_fork],
-        refused: Some(format!("the {why}")),
+        refused: Some(RefusedFile { told: format!("the {told}"), why }),
         hints: hints::refused_audit(files, refused),
+    }
+}
+
+/// Which of the two limits of number 5 a submission does not keep.
+fn which_side(submission: &Input) -> String {
+    if submission.is_long() {
+        format!(" This one has more than {}.", grouped(SUBMISSION_MAX))
+    } else {
+        format!(" This one has fewer than {SUBMISSION_MIN}.")
     }
 }
 

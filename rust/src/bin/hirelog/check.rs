@@ -1,6 +1,6 @@
 //! hirelog check: an LMS signature (RFC 8554) of a message under a key.
 
-use crate::answer::{Answer, Failure, Remark, Status};
+use crate::answer::{Answer, Failure, RefusedFile, Remark, Status};
 use crate::files::{read_all, Input};
 use crate::formats::{looks_like_roster, KEY_SIZE};
 use crate::usage::{wrong_count, Command};
@@ -86,31 +86,38 @@ fn refused(
     verdict: Verdict,
     [key, message, signature]: &[Input; 3],
     row: &Number,
-) -> Option<String> {
+) -> Option<RefusedFile> {
     match verdict {
         Verdict::Good => None,
-        Verdict::Bad => Some(format!(
-            "bad: {} is no good signature of {} under the key {}: number {}, {}",
-            signature.name(),
-            message.name(),
-            key.name(),
-            row.number,
-            row.word
-        )),
+        Verdict::Bad => {
+            let told = format!(
+                "bad: {} is no good signature of {} under the key {}: number {}, {}",
+                signature.name(),
+                message.name(),
+                key.name(),
+                row.number,
+                row.word
+            );
+            Some(RefusedFile { told, why: String::new() })
+        }
         Verdict::LongMessage => Some(too_long(message, row)),
     }
 }
 
 /// The message of number 16.
-pub fn too_long(file: &Input, row: &Number) -> String {
-    let named = format!("{} was refused: number {}, {}", file.described(), row.number, row.word);
-    format!("{named}. {}", row.meaning)
+pub fn too_long(file: &Input, row: &Number) -> RefusedFile {
+    let told = format!("{} was refused: number {}, {}", file.described(), row.number, row.word);
+    RefusedFile { told, why: row.meaning.into() }
 }
 
-/// What may have gone wrong: an empty file, a key that is none, or files in another order.
+/// What may have gone wrong: files in another order, which is certain; else an empty file, a key
+/// that is none, or a signature of another length.
 fn bad_hints(files: &[Input; 3]) -> Vec<String> {
-    let key = &files[0];
-    let mut hints = hints::empty(files);
+    if let Some(order) = right_order(files) {
+        return vec![order];
+    }
+    let [key, _, signature] = files;
+    let mut hints: Vec<String> = hints::empty(files).into_iter().collect();
     if looks_like_roster(&key.bytes) {
         hints.push(format!(
             "{} looks like a roster: cut the {KEY_SIZE} bytes of the board's key out of it \
@@ -120,7 +127,7 @@ fn bad_hints(files: &[Input; 3]) -> Vec<String> {
     } else if key.bytes.len() != KEY_SIZE && !key.bytes.is_empty() {
         hints.push(format!("{} has {}, and a key has {KEY_SIZE}", key.name(), key.size()));
     }
-    hints.extend(right_order(files));
+    hints.extend(hints::signature_size(key, signature));
     hints
 }
 

@@ -80,7 +80,7 @@ fn remark(digest: Option<&str>, file: &Input, row: &Number) -> Remark {
         None => Remark {
             line: format!("number {}", row.number),
             meaning: row.meaning.into(),
-            advice: row.advice.into(),
+            advice: format!("{} sha256sum takes longer ones.", row.advice),
         },
     }
 }

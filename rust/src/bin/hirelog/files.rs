@@ -50,8 +50,7 @@ impl Input {
     pub fn size(&self) -> String {
         match self.bytes.len() {
             _ if self.is_long() => format!("more than {} bytes", grouped(self.limit)),
-            1 => "1 byte".into(),
-            size => format!("{} bytes", grouped(size)),
+            size => counted(size, "byte"),
         }
     }
 }
@@ -67,10 +66,18 @@ pub fn read_all<const N: usize>(paths: [PathBuf; N], limit: usize) -> Result<[In
     Ok(read.map(|file| file.expect("no message")))
 }
 
-/// The files of these names in a folder; or says that it is no folder.
-pub fn in_folder<const N: usize>(folder: &Path, names: [&str; N]) -> Result<[PathBuf; N], Failure> {
+/// The files of these names in a folder; or says that it is no folder, or has not all of them, and
+/// what can be done instead of mending that.
+pub fn in_folder<const N: usize>(
+    folder: &Path,
+    names: [&str; N],
+    instead: &str,
+) -> Result<[PathBuf; N], Failure> {
     let message = match folder.metadata() {
-        Ok(found) if found.is_dir() => return Ok(names.map(|name| folder.join(name))),
+        Ok(found) if found.is_dir() => match lacking(folder, &names, instead) {
+            Some(message) => message,
+            None => return Ok(names.map(|name| folder.join(name))),
+        },
         Ok(_) => format!(
             "{folder:?} is a file, and a folder with the files {} belongs here: name that folder, \
              or each of its files",
@@ -83,6 +90,28 @@ pub fn in_folder<const N: usize>(folder: &Path, names: [&str; N]) -> Result<[Pat
         Err(error) => unreadable(folder, &error),
     };
     Err(Failure { status: Status::Unreadable, messages: vec![message] })
+}
+
+/// Says that a folder may not be searched, or which names stand for nothing in it. A link counts as
+/// there, also where what it leads to is not.
+fn lacking(folder: &Path, names: &[&str], instead: &str) -> Option<String> {
+    let mut missing = Vec::new();
+    for name in names {
+        match folder.join(name).symlink_metadata() {
+            Err(error) if error.kind() == ErrorKind::NotFound => missing.push(name.to_string()),
+            Err(error) if error.kind() == ErrorKind::PermissionDenied => {
+                return Some(format!("the folder {}", unreadable(folder, &error)));
+            }
+            _ => {}
+        }
+    }
+    let rename = match missing.len() {
+        0 => return None,
+        1 => "with exactly this name: rename it",
+        _ => "with exactly these names: rename them",
+    };
+    let missing = list(&missing, "or");
+    Some(format!("the folder {folder:?} has no file {missing}, {rename}, or {instead}"))
 }
 
 /// Linux's error for a name that goes on after a file, as if that were a folder.
@@ -103,6 +132,19 @@ fn unreadable(path: &Path, error: &io::Error) -> String {
              the spelling"
         ),
         _ => format!("{path:?} cannot be read ({error}): copy it again from where it came"),
+    }
+}
+
+/// So many of a thing, as 1 byte or 1,000 bytes.
+pub fn counted(number: usize, thing: &str) -> String {
+    format!("{} {thing}{}", grouped(number), if number == 1 { "" } else { "s" })
+}
+
+/// Texts in a row, with this word before the last.
+pub fn list(texts: &[String], word: &str) -> String {
+    match texts {
+        [before @ .., last] if !before.is_empty() => format!("{} {word} {last}", before.join(", ")),
+        _ => texts.concat(),
     }
 }
 

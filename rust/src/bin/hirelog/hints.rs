@@ -1,24 +1,36 @@
 //! What may have gone wrong with the files: empty, in each other's places, of different districts.
 //! A hint is a sentence without its full stop.
 
-use crate::files::{grouped, Input};
-use crate::formats::{self, looks_like_roster, looks_like_submission};
-use hirelog::{Place, Refusal, Refused};
+use crate::answer::once;
+use crate::files::{counted, grouped, list, Input};
+use crate::formats::{
+    self, looks_like_roster, looks_like_submission, REPLICA_COUNTS, SUBMISSION_MIN,
+};
+use hirelog::{Place, Refusal, Refused, REPLICAS};
 
 /// Which of the files are empty.
-pub fn empty(files: &[Input]) -> Vec<String> {
+pub fn empty(files: &[Input]) -> Option<String> {
     let empty = files.iter().filter(|file| file.bytes.is_empty());
-    empty
-        .map(|file| format!("{} is empty: copy it again from where it came", file.name()))
-        .collect()
+    let names = once(empty.map(Input::name).collect());
+    match &names[..] {
+        [] => None,
+        [name] => Some(format!("{name} is empty: copy it again from where it came")),
+        _ => {
+            Some(format!("{} are empty: copy them again from where they came", list(&names, "and")))
+        }
+    }
 }
 
 /// For an audit that was refused: roster, first and second as they were given.
 pub fn refused_audit(files: &[Input; 3], refused: &Refused) -> Vec<String> {
-    let mut hints = empty(files);
-    hints.extend(misplaced(files));
-    if refused.refusal == Refusal::RosterSize {
+    let misplaced = misplaced(files);
+    let mut hints: Vec<String> = empty(files).into_iter().collect();
+    if refused.refusal == Refusal::RosterSize && misplaced.is_empty() {
         hints.extend(roster_count(&files[0]));
+    }
+    hints.extend(misplaced);
+    if refused.refusal == Refusal::Signature && refused.place == Place::First {
+        hints.extend(both_fail(files));
     }
     if refused.refusal == Refusal::Cluster {
         hints.extend(other_district(files, refused.place));
@@ -50,18 +62,56 @@ fn misplaced(files: &[Input; 3]) -> Vec<String> {
     )]
 }
 
-/// A roster that is longer or shorter than the replicas that it says it has.
+/// A roster whose size does not go with the replicas that it says it has.
 fn roster_count(roster: &Input) -> Option<String> {
-    let count = formats::replica_count(&roster.bytes)?;
-    let size = formats::roster_size(count);
-    let fault = if roster.bytes.len() < size { "it was cut short" } else { "bytes were added" };
+    let (name, size) = (roster.name(), roster.bytes.len());
+    if size == 0 {
+        return None;
+    }
+    let Some(count) = formats::replica_count(&roster.bytes) else {
+        let least = formats::roster_size(*REPLICA_COUNTS.start());
+        let told = format!("{name} has {}, and a roster {least} at least", roster.size());
+        return Some(format!("{told}: it seems to be cut short, or to be another file"));
+    };
+    let told = format!("{name} says that it has {}", counted(count, "board"));
+    if REPLICA_COUNTS.contains(&count) {
+        let right = formats::roster_size(count);
+        let fault =
+            if size < right { "it seems to be cut short" } else { "bytes seem to be added" };
+        return Some(format!(
+            "{told}, and would then have {right} bytes, but it has {}: {fault}, or that number is \
+             damaged",
+            roster.size()
+        ));
+    }
+    let told = format!("{told}, and a roster has {} to {}", REPLICA_COUNTS.start(), REPLICAS);
+    Some(match REPLICA_COUNTS.into_iter().find(|&other| formats::roster_size(other) == size) {
+        Some(fitting) => {
+            format!("{told}: its size goes with {fitting}, so that number seems to be damaged")
+        }
+        None => format!("{told}: it seems to be another file, or that number is damaged"),
+    })
+}
+
+/// Whether a bad signature is in both submissions, where the first was refused for one.
+fn both_fail([roster, first, second]: &[Input; 3]) -> Option<String> {
+    let exchanged = hirelog::audit(&roster.bytes, &second.bytes, &first.bytes);
+    let second_fails =
+        matches!(exchanged, Err(Refused { refusal: Refusal::Signature, place: Place::First, .. }));
+    let told = format!("both submissions fail: look at the roster {} first", roster.name());
+    (second_fails && first.bytes != second.bytes).then_some(told)
+}
+
+/// A signature that is longer or shorter than one under this key.
+pub fn signature_size(key: &Input, signature: &Input) -> Option<String> {
+    let size = formats::signature_size(&key.bytes)?;
     let told = format!(
-        "{} says that it has {count} boards, and would then have {} bytes, but it has {}: {fault}",
-        roster.name(),
-        grouped(size),
-        roster.size()
+        "{} has {}, and a signature under this key has {}",
+        signature.name(),
+        signature.size(),
+        grouped(size)
     );
-    (!looks_like_submission(&roster.bytes)).then_some(told)
+    (signature.bytes.len() != size && !signature.bytes.is_empty()).then_some(told)
 }
 
 /// Which of the three files does not go with the others.
@@ -89,9 +139,10 @@ fn other_district(files: &[Input; 3], place: Place) -> Option<String> {
     })
 }
 
-/// Two submissions that are one: nothing can be found between them.
+/// Two submissions that are one: nothing can be found between them. Two empty logs of a district
+/// have the same bytes by right.
 pub fn same_bytes(first: &Input, second: &Input) -> Option<String> {
-    let same = first.bytes == second.bytes && !first.bytes.is_empty() && !first.is_long();
+    let same = first.bytes == second.bytes && first.bytes.len() > SUBMISSION_MIN;
     let told = format!(
         "{} and {} have the same bytes, and a submission does not contradict itself: see that they \
          are the two that you meant",

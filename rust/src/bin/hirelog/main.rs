@@ -14,7 +14,7 @@ mod hints;
 mod json;
 mod usage;
 
-use answer::{Failure, Status};
+use answer::{once, Failure, Status};
 use std::ffi::OsString;
 use std::io::{self, Write};
 use std::process::ExitCode;
@@ -43,19 +43,23 @@ fn main() -> ExitCode {
 /// Does what the command line asks for.
 fn run(arguments: &[OsString]) -> Result<Outcome, Failure> {
     let (command, options, operands) = match usage::parse(arguments)? {
-        Request::Help(text) => {
+        Request::Print(text) => {
             let output = text.into_bytes();
             return Ok(Outcome { output, messages: Vec::new(), status: Status::NothingFound });
         }
         Request::Run { command, options, operands } => (command, options, operands),
     };
-    let answer = (command.run)(&operands)?;
+    let mut answer = (command.run)(&operands).map_err(|mut failure| {
+        failure.messages.extend(usage::parted_name(&operands));
+        failure
+    })?;
+    answer.hints = once(answer.hints);
     let output = if options.json {
         answer.json(command.name, options.explain)
     } else {
         answer.text(options.explain)
     };
-    Ok(Outcome { output, messages: answer.messages(), status: answer.status })
+    Ok(Outcome { output, messages: answer.messages(options.explain), status: answer.status })
 }
 
 /// Prints what a run leaves: stdout first, so that its lines stand before the messages.
@@ -68,7 +72,7 @@ fn finish(outcome: Outcome) -> ExitCode {
         messages.push(format!("the answer cannot be written ({error})"));
         status = Status::Unreadable;
     }
-    for message in messages {
+    for message in once(messages) {
         // Where stderr is closed too, the exit status is all that can be said.
         let _ = writeln!(io::stderr(), "hirelog: {message}");
     }

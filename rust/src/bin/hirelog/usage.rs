@@ -2,7 +2,7 @@
 
 use crate::answer::{Answer, Failure, Status};
 use crate::COMMANDS;
-use std::ffi::OsString;
+use std::ffi::{OsStr, OsString};
 use std::path::PathBuf;
 
 /// A command, and what its help says.
@@ -29,8 +29,13 @@ pub struct Options {
 
 /// What a command line asks for.
 pub enum Request {
-    Help(String),
-    Run { command: &'static Command, options: Options, operands: Vec<PathBuf> },
+    /// Help, or the version.
+    Print(String),
+    Run {
+        command: &'static Command,
+        options: Options,
+        operands: Vec<PathBuf>,
+    },
 }
 
 const OPTIONS: &str = "\
@@ -40,6 +45,8 @@ Options:
   --help     print this
   --         end the options, before a name that begins with -
 ";
+
+const VERSION: &str = concat!("hirelog ", env!("CARGO_PKG_VERSION"), "\n");
 
 /// Exit statuses of every command.
 const STATUSES: &[(Status, &str)] = &[
@@ -57,21 +64,77 @@ pub fn parse(arguments: &[OsString]) -> Result<Request, Failure> {
         return Err(wrong_usage(format!("name a command: {}", names()), "hirelog"));
     };
     if is_help(name) {
-        return Ok(Request::Help(help()));
+        return Ok(Request::Print(help()));
     }
-    let Some(command) = COMMANDS.iter().find(|command| name == command.name) else {
-        let why = format!("there is no command {name:?}, but {}", names());
-        return Err(wrong_usage(why, "hirelog"));
-    };
+    if name == "help" {
+        let text = match rest {
+            [name, ..] if !is_help(name) => find(name)?.help_text(),
+            _ => help(),
+        };
+        return Ok(Request::Print(text));
+    }
+    if name == "--version" || name == "version" {
+        return Ok(Request::Print(VERSION.into()));
+    }
+    if is_option(name) {
+        return Err(option_first(arguments));
+    }
+    let command = find(name)?;
     let (options, operands) = match split(command, rest)? {
         Some(parts) => parts,
-        None => return Ok(Request::Help(command.help_text())),
+        None => return Ok(Request::Print(command.help_text())),
     };
     if operands.iter().any(|operand| operand.as_os_str().is_empty()) {
         let why = "a file's name is empty: is a variable of a script not set?".into();
         return Err(wrong_usage(why, &command.full_name()));
     }
     Ok(Request::Run { command, options, operands })
+}
+
+/// The command of this name.
+fn find(name: &OsString) -> Result<&'static Command, Failure> {
+    COMMANDS.iter().find(|command| name == command.name).ok_or_else(|| {
+        wrong_usage(format!("there is no command {name:?}, but {}", names()), "hirelog")
+    })
+}
+
+/// The failure of a command line that begins with an option: says the right one, if there is a
+/// command in it.
+fn option_first(arguments: &[OsString]) -> Failure {
+    let count = arguments.iter().take_while(|argument| is_option(argument)).count();
+    let (before, rest) = arguments.split_at(count);
+    let known = |option: &OsString| ["--explain", "--json", "--"].iter().any(|name| option == name);
+    if let Some(option) = before.iter().find(|option| !known(option)) {
+        return wrong_usage(format!("there is no option {option:?}"), "hirelog");
+    }
+    let why = match rest.split_first().map(|(name, after)| (find(name), after)) {
+        Some((Ok(command), after)) => {
+            let others: Vec<String> = before.iter().chain(after).map(written).collect();
+            let line = format!("{} {}", command.full_name(), others.join(" "));
+            format!("options stand after the command: {line}")
+        }
+        _ => format!("options stand after the command: name one first: {}", names()),
+    };
+    wrong_usage(why, "hirelog")
+}
+
+/// An argument as it can be typed: in quotes where a shell might take it for something else.
+fn written(argument: &OsString) -> String {
+    let plain = |byte: &u8| byte.is_ascii_alphanumeric() || b"-_./,:+=@%".contains(byte);
+    let bytes = argument.as_encoded_bytes();
+    if !bytes.is_empty() && bytes.iter().all(plain) {
+        argument.to_string_lossy().into()
+    } else {
+        format!("{argument:?}")
+    }
+}
+
+/// Where the operands together, with blanks between, are the name of something: says so.
+pub fn parted_name(operands: &[PathBuf]) -> Option<String> {
+    let whole = operands.iter().map(|operand| operand.as_os_str()).collect::<Vec<_>>();
+    let whole = PathBuf::from(whole.join(OsStr::new(" ")));
+    let told = format!("{whole:?} is there: a name with blanks needs quotes");
+    (operands.len() > 1 && whole.exists()).then_some(told)
 }
 
 /// Options apart from operands; nothing where help is asked for.
@@ -90,7 +153,11 @@ fn split(
             options.json = true;
         } else if argument == "--" {
             operands.extend(arguments.by_ref().map(PathBuf::from));
-        } else if argument.as_encoded_bytes().starts_with(b"-") {
+        } else if argument == "-" {
+            let why =
+                "\"-\" names no file: standard input is not read, but /dev/stdin can be named";
+            return Err(wrong_usage(why.into(), &command.full_name()));
+        } else if is_option(argument) {
             let why = format!("there is no option {argument:?}");
             return Err(wrong_usage(why, &command.full_name()));
         } else {
@@ -102,6 +169,10 @@ fn split(
 
 fn is_help(argument: &OsString) -> bool {
     argument == "--help" || argument == "-h"
+}
+
+fn is_option(argument: &OsString) -> bool {
+    argument.as_encoded_bytes().starts_with(b"-")
 }
 
 fn names() -> String {
@@ -116,7 +187,9 @@ fn wrong_usage(why: String, name: &str) -> Failure {
 pub fn wrong_count(command: &Command, count: usize) -> Failure {
     let forms = command.forms.join(" or ");
     let names = if count == 1 { "name was" } else { "names were" };
-    let why = format!("{} takes {forms}, and {count} {names} given", command.full_name());
+    // One name has no part too many.
+    let quotes = if count > 1 { " (a name with blanks needs quotes)" } else { "" };
+    let why = format!("{} takes {forms}, and {count} {names} given{quotes}", command.full_name());
     wrong_usage(why, &command.full_name())
 }
 
@@ -130,7 +203,8 @@ fn help() -> String {
     for command in COMMANDS {
         text += &format!("  {:<7} {}\n", command.name, command.purpose);
     }
-    text += &format!("\nEach command's --help says what it prints.\n\n{OPTIONS}");
+    text += "\nEach command's --help says what it prints; hirelog --version prints the version.\n";
+    text += &format!("\n{OPTIONS}");
     let own = [
         (Status::NothingFound, "nothing found; a good signature; a digest"),
         (Status::Named, "a board is named"),
