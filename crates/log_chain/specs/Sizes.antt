@@ -2,10 +2,11 @@
 use mathlib.Core.List.{List, _∷_, _++_}
 use Prim.Native.Nat.{ℕ, _+_}
 use Rattle.words.specs.BigEndian.{be}
+use Rattle.words.specs.Widths.{widthMost}
 
--- the most bytes of a record: a term of eight bytes, and the payload digest
+-- the most bytes of a record: the widest term, and the payload digest
 abbrev pub recordSizeMost : ℕ
-recordSizeMost = 8 + 32
+recordSizeMost = widthMost + 32
 
 -- the bytes of a stamp and a receipt, as the code holds the fields: kind, cluster name, term, index, pointer
 abbrev pub placeStatement : ℕ → List ℕ → ℕ → ℕ → ℕ → List ℕ → List ℕ

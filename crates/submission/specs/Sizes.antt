@@ -1,6 +1,7 @@
 -- Sizes that the code asks about.
 use Prim.Native.Nat.{ℕ, _+_}
+use Rattle.words.specs.Widths.{widthMost}
 
--- the most bytes of a vote's fields, with terms of eight bytes
+-- the most bytes of a vote's fields: with the widest terms
 abbrev pub ballotMost : ℕ
-ballotMost = 2 + 8 + 8 + 4 + 32
+ballotMost = 2 + widthMost + widthMost + 4 + 32

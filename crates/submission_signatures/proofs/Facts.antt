@@ -23,7 +23,7 @@ use Rattle.submission.proofs.Slots.{quorate-facts}
 use Rattle.submission_parts.specs.declared.Shape.{Shape}
 use Rattle.submission_parts.proofs.Inside.{commit-inside}
 use Rattle.submission_parts.proofs.Shapes.{known-records}
-use Rattle.submission_signatures.specs.Votes.{quorateAll}
+use Rattle.submission_signatures.proofs.Quorate.{quorateAll}
 use Rattle.submission_signatures.specs.Checked.{Laid}
 
 module _ (roster : List ℕ) (shape : Shape) (s : List ℕ) (laid : Laid roster shape s) where

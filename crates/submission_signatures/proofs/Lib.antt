@@ -1,3 +1,4 @@
+pub mod Quorate
 pub mod Facts
 pub mod Fifteen
 pub mod Said

@@ -12,7 +12,8 @@ use Rattle.refusal.specs.Checks.{every}
 use Rattle.refusal.proofs.Laws.{cond-true, every-append}
 use Rattle.submission.specs.View.{Slot}
 use Rattle.submission.specs.Reading.{ballotSize, signersAt, certificateAt, certificateEnd, certificates, certificatesEnd}
-use Rattle.submission_signatures.specs.Votes.{ballots, quorateAll}
+use Rattle.submission_signatures.specs.Votes.{ballots}
+use Rattle.submission_signatures.proofs.Quorate.{quorateAll}
 use Rattle.submission.proofs.Certificates.{certificate-head, certificates-first, rest-inside, first-inside}
 use Rattle.submission.proofs.Slots.{quorate-facts}
 

@@ -131,3 +131,13 @@ fn long_messages() {
     expect(&[key, short, endless], "bad", 15)
         .tells(&["more than 16,777,216 bytes, and a signature under this key has 1,292\n"]);
 }
+
+/// The repository's sample of a signature is good, and no other file is what it signs.
+#[test]
+fn sample_of_a_signature() {
+    let files = ["key", "message", "signature"].map(|file| repository("samples").join(file));
+    expect(&files, "good", 0);
+    let [key, _, signature] = files;
+    let other = repository("samples").join("empty").join("expected");
+    expect(&[key, other, signature], "bad", 15);
+}

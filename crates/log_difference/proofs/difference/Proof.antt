@@ -1,4 +1,5 @@
 -- One record of each a turn: what is left of the logs differs first where all of them do.
+-- What the last test compared is said in both of its arms: a need cannot be handed what another has named.
 -- Assumes nothing.
 use mathlib.Core.Path.{_≡_, sym, _∙_}
 use mathlib.Core.List.{List}

@@ -8,11 +8,14 @@
 //! for more: `roster`, `first`, `second`, `expected` (the lines that the program `audit` prints)
 //! and `report` (the 53 bytes that the library's audit writes). They differ where a file is larger
 //! than the program's buffer.
+//!
+//! FOLDER/samples: `key`, `message` and `signature`, a good one, for the signature check.
 
 use auditor::audit::findings;
 use auditor::cases::empty;
 use auditor::program;
 use auditor::samples::{cluster, large_keys, more_pairs, samples, submissions, Pair};
+use auditor::signer::Signer;
 use auditor::verdicts::Verdicts;
 use std::path::{Path, PathBuf};
 use std::{env, fs, process::exit};
@@ -50,6 +53,12 @@ fn main() {
             write_pair(&made(folder.join(part).join(pair.folder)), &pair, &mut verdicts);
         }
     }
+
+    let checked = made(folder.join("samples"));
+    let message = b"Replica 1 of the samples signed these words.\n";
+    write(&checked, "key", &roster[18..18 + 56]);
+    write(&checked, "message", message);
+    write(&checked, "signature", &Signer::new(&cluster).sign(1, message));
     println!("make_cases: {} written", folder.display());
 }
 

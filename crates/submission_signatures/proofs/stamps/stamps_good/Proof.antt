@@ -1,4 +1,5 @@
 -- One leader certificate a turn, with the next one's last index and pointer, which are its term's last record; the last term's are the log's.
+-- What a turn and the last stamp ask for is one list, said in both needs: a need cannot be handed what another has named.
 -- Assumes nothing.
 use mathlib.Core.Path.{sym, ap, _∙_}
 use mathlib.Core.List.{[], map}

@@ -11,7 +11,8 @@ use Rattle.roster.specs.Roster.{cluster, replicas}
 use Rattle.log_chain.specs.Log.{withTerms}
 use Rattle.submission.specs.Reading.{certificates, certificatesEnd, view}
 use Rattle.submission.specs.Validate.{genuine}
-use Rattle.submission_signatures.specs.Votes.{ballots, quorateAll}
+use Rattle.submission_signatures.specs.Votes.{ballots}
+use Rattle.submission_signatures.proofs.Quorate.{quorateAll}
 use Rattle.submission.proofs.Certificates.{rest-inside, first-inside}
 use Rattle.submission_parts.proofs.Shapes.{known-certificates, leaders-room}
 use Rattle.submission_signatures.proofs.Facts.{leaders-quorate}
