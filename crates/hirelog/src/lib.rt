@@ -5,6 +5,8 @@ ghost use Rattle.lm_answer.specs.Number.{answerNumber};
 ghost use Rattle.lms.specs.Check.{answer};
 ghost use Rattle.report.specs.Report.{auditNumber, reportAfter};
 ghost use Rattle.report.specs.Claims.{Naming, Fairness};
+ghost use Rattle.district.specs.District.{districtNumber, districtAfter};
+ghost use Rattle.district.specs.Claims.{DistrictNaming, DistrictFairness};
 
 // SHA-256 (document 01, "Digest and signature"; FIPS 180-4): 0 and the digest of the message, or 16 for a
 // message of more than 16,777,216 bytes, with the digest as it was.
@@ -47,4 +49,28 @@ pub extern "C" fn hirelog_audit(
         (now (report .exit)) ⌝ }
 {
     audit_pair::audit(roster, first, second, report)
+}
+
+// The audit of a district (document 02, W1): up to nine submissions end to end in one buffer. The number,
+// and with number 0 the report in the buffer's first bytes, four more than there are lengths; a refused run
+// writes nothing. Demand 3 stands on the number and on the report's own bytes, over the whole list.
+#[no_mangle]
+pub extern "C" fn hirelog_district(
+    roster: &[u8],
+    buffer: &[u8],
+    lengths: &[u32],
+    report: &mut [u8],
+) -> u32
+    ensures number { λ r. ⌜ r
+        ≡ districtNumber (now (roster .entry)) (now (buffer .entry)) (now (lengths .entry))
+        (now (report .entry)) ⌝ }
+    ensures bytes { λ _. ⌜ now (report .exit)
+        ≡ districtAfter (now (roster .entry)) (now (buffer .entry)) (now (lengths .entry))
+        (now (report .entry)) ⌝ }
+    ensures naming { λ r. ⌜ DistrictNaming (now (roster .entry)) (now (buffer .entry))
+        (now (lengths .entry)) r (now (report .exit)) ⌝ }
+    ensures fairness { λ r. ⌜ DistrictFairness (now (roster .entry)) (now (buffer .entry))
+        (now (lengths .entry)) r (now (report .exit)) ⌝ }
+{
+    audit_district::audit(roster, buffer, lengths, report)
 }

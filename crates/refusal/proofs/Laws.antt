@@ -1,12 +1,13 @@
 -- What tests taken together say of each, and what it means that no check is refused.
 -- Assumes nothing.
-use mathlib.Core.Path.{_≡_, refl, _∙_}
+use mathlib.Core.Path.{_≡_, refl, sym, _∙_}
 use mathlib.Core.Bool.{Bool, true, false, not, cond, false≢true}
 use mathlib.Core.List.{List, [], _∷_, _++_, List·Memᴰ, List·Memᴰ·not-nil, List·Memᴰ·cases-cons}
 use mathlib.Core.Logic.{_⊎_, inl, inr, ⊎-elim}
 use Prim.Native.Nat.{ℕ, _<_}
 use native.Mathlib.Omega.{arith}
-use borrow.Author.Tests.{eq-eqb, ne-eqb}
+use borrow.Author.Tests.{eq-eqb, ne-eqb, eqb-true, eqb-false, not-true, not-false}
+use lib.Dec.{eqb}
 use Rattle.refusal.specs.Checks.{all, every, Check, check, refusal, first}
 
 -- ---- one test
@@ -18,10 +19,6 @@ look false = inr refl
 pub cond-true : (b c : Bool) → cond b c false ≡ true → (b ≡ true) × (c ≡ true)
 cond-true true c e = (refl, e)
 cond-true false c e = absurd (false≢true e)
-
-pub not-true : (b : Bool) → not b ≡ true → b ≡ false
-not-true true e = absurd (false≢true e)
-not-true false e = refl
 
 -- ---- all of them
 
@@ -63,6 +60,15 @@ unfolding all
 all-one true = refl
 all-one false = refl
 
+-- ---- a test that the code has asked
+
+module _ {r b : Bool} (e : r ≡ b) where
+  pub met : not r ≡ false → b ≡ true
+  met h = sym e ∙ not-false r h
+
+  pub unmet : not r ≡ true → b ≡ false
+  unmet h = sym e ∙ not-true r h
+
 -- ---- no check refused
 
 pub accepted : (k : ℕ) (met : Bool) (cs : List Check) → 0 < k → refusal (check k met ∷ cs) ≡ 0 → (met ≡ true) × (refusal cs ≡ 0)
@@ -89,3 +95,9 @@ first-refused {r} {a} b e h = e ∙ rw (ne-eqb a 0 (λ z. h (e ∙ z)))
 pub first-accepted : {r a b : ℕ} → a ≡ 0 → r ≡ b → r ≡ first a b
 unfolding first
 first-accepted e h = rw (eq-eqb _ 0 e) h
+
+-- 0 only where both are
+pub first-zero : (a b : ℕ) → first a b ≡ 0 → (a ≡ 0) × (b ≡ 0)
+unfolding first
+first-zero a b e =
+    ⊎-elim (λ (h : eqb a 0 ≡ true). (eqb-true a 0 h, rw h at e)) (λ (h : eqb a 0 ≡ false). absurd (eqb-false a 0 h (rw h at e))) (look (eqb a 0))

@@ -9,12 +9,12 @@ use mathlib.Core.Logic.{_⊎_, inl, inr, ⊎-elim}
 use Prim.Native.Nat.{ℕ, _≤_, _<_}
 use native.Mathlib.Nat.{le-refl, le-trans}
 use native.Mathlib.Omega.{arith}
-use borrow.Author.Tests.{ltb-true, eqb-true, eqb-false, leb-true, eq-eqb}
+use borrow.Author.Tests.{ltb-true, eqb-true, eqb-false, leb-true, eq-eqb, not-true}
 use lib.Dec.{eqb, ltb}
 use lib.ListN.{length, take, length-append}
 use lib.Seq.{length-take-le}
 use Rattle.words.proofs.Same.{true-same}
-use Rattle.refusal.proofs.Laws.{look, cond-true, not-true, all-cons}
+use Rattle.refusal.proofs.Laws.{look, cond-true, all-cons}
 use Rattle.log_chain.specs.Log.{Form, Record, termFrom, lastTerm}
 use Rattle.log_chain.specs.Ends.{rising, staler}
 use Rattle.log_chain.specs.Claim.{Ballot, Claim, stamped, received, voted}

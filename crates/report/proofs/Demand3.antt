@@ -1,9 +1,9 @@
 -- Demand 3 on the report's bytes: naming by the naming of views, fairness since a replica that keeps the rules has no charge. The mask in the bytes has
 -- a one exactly where a row has a charge; after a refusal it is 0.
 -- Assumes nothing.
-use mathlib.Core.Path.{_≡_, sym, _∙_}
+use mathlib.Core.Path.{_≡_, refl, sym, _∙_}
 use mathlib.Core.Bool.{true, false}
-use mathlib.Core.List.{List}
+use mathlib.Core.List.{List, [], _∷_, List·Memᴰ·head, List·Memᴰ·tail}
 use mathlib.Core.Logic.{⊎-elim}
 use Prim.Native.Nat.{ℕ, _^_, _<_}
 use native.Mathlib.Nat.{lt-of-lt-of-le}
@@ -23,7 +23,7 @@ use Rattle.forensics.proofs.Agree.{differ-at}
 use Rattle.forensics.proofs.Naming.{naming as views-naming}
 use Rattle.forensics.proofs.Rows.{mask-small, mask-clear}
 use Rattle.report.specs.Report.{Answer, refused, answer, reportSize, short, auditNumber, reportAfter, namedIn}
-use Rattle.report.specs.Claims.{Naming, Fairness}
+use Rattle.report.specs.Claims.{Naming, Fair, Fairness}
 use Rattle.report.proofs.Bytes.{named-in, Outcome, compared, stopped, outcome}
 use Rattle.report.proofs.Fairness.{rows-fair}
 
@@ -64,12 +64,13 @@ module _ (roster s₁ s₂ report : List ℕ) where
           omega (arith, positive, named-are e _ d (mask-fits roster s₁ s₂), nobody)
 
   pub fairness : Bytes s₁ → Bytes s₂ → Fairness roster s₁ s₂ (auditNumber roster s₁ s₂ report) (reportAfter roster s₁ s₂ report)
-  unfolding Fairness refused maskOf bit findings slotsOf
+  unfolding Fairness Fair refused maskOf bit findings slotsOf
   fairness b₁ b₂ other k low high acts keep own apart = go (long other) (outcome roster s₁ s₂)
     where
       go : short report ≡ false → Outcome roster s₁ s₂ → signer (namedIn (reportAfter roster s₁ s₂ report)) k ≡ false
       go e (stopped number place some-number d) = rw (named-are e (refused number place) d (lit< tt)) (signer-none k)
       go e (compared r v₁ v₂ d) =
           let few = sizes roster r in
-          let none-charged = rows-fair roster s₁ s₂ b₁ b₂ v₁ v₂ (omega (arith, few .high)) k acts keep own apart in
+          let none-charged = rows-fair roster (s₁ ∷ s₂ ∷ []) (omega (arith, few .high)) k acts keep own apart
+          s₁ s₂ (List·Memᴰ·head refl) (List·Memᴰ·tail (List·Memᴰ·head refl)) b₁ b₂ v₁ v₂ in
           rw (named-are e _ d (mask-fits roster s₁ s₂)) (mask-clear (slotsOf roster s₁) (slotsOf roster s₂) rowCount k low (omega (arith, few .high, high)) none-charged)

@@ -1,8 +1,8 @@
 mod Bytes
 mod Examples
-mod Fairness
+pub mod Fairness
 pub mod Fits
 pub mod Figures
 pub mod Demand3
-mod Premises
+pub mod Premises
 mod Strength

@@ -32,13 +32,13 @@ use Rattle.submission.specs.Reading.{view, laidOut, certificates, certificatesE
 use Rattle.log_chain.specs.Records.{recordSize, recordsOf}
 use Rattle.submission.specs.Validate.{sized as sizedSubmission, versioned, named, counted, commitSigners, masks, ordered, oneEach, within, formOf, viewOf, slotsOf, validate}
 use Rattle.report.specs.Report.{short, answer, auditNumber, reportAfter, namedIn}
-use Rattle.report.specs.Claims.{OwnSignatures, strings, Fairness}
+use Rattle.report.specs.Claims.{OwnSignatures, stringsIn, strings, Fair, Fairness}
 use Rattle.report.specs.Figures.{sampleKey, sampleRoster, sampleSubmission}
 use Rattle.report.proofs.Demand3.{fairness}
 
 -- ---- the example
 
-three : List ℕ
+unfoldable pub three : List ℕ
 three = sampleRoster 3 (1 ∷ 2 ∷ 3 ∷ [])
 
 one : Record
@@ -47,21 +47,24 @@ one = record { term = 1; digest = replicate 32 0 }
 ballot : Ballot
 ballot = record { candidate = 3; term = 1; lastTerm = 0; lastIndex = 0; lastPointer = replicate 32 0 }
 
-acts : List Act
+pub acts : List Act
 acts = raise 1 ∷ vote ballot ∷ add one ∷ run 0 (one ∷ []) ∷ stamp ∷ stamp ∷ receipt 1 ∷ decline ∷ restart ∷ []
+
+unfoldable pub both : List (List ℕ)
+both = sampleSubmission ∷ sampleSubmission ∷ []
 
 buffer : List ℕ
 buffer = replicate 53 0
 
 -- the acts keep the rules
-kept : keeps (formOf three) (replicas three) first acts ≡ true
+pub kept : keeps (formOf three) (replicas three) first acts ≡ true
 unfolding three one ballot acts sampleRoster sampleKey be flatMap cluster replicas numberAt number formOf version1 first keeps allowed all rules after fitsTerm fitsIndex fitsRecords oneCandidate noStamp noStaler rising staler
     lastTerm termFrom
 kept = refl
 
 -- no signature stands in the submissions
-own : OwnSignatures three sampleSubmission sampleSubmission 1 acts
-unfolding OwnSignatures three sampleRoster sampleKey sampleSubmission be number numberAt flatMap cluster replicas keyOf treeType levels signatureSize signatureLength pathAt oneTimeBytes
+pub own : OwnSignatures three both 1 acts
+unfolding OwnSignatures both three sampleRoster sampleKey sampleSubmission be number numberAt flatMap cluster replicas keyOf treeType levels signatureSize signatureLength pathAt oneTimeBytes
     row height word recordCount leaderCount distance runs runsAfter leads leadsOf slots receiptsOf view recordSize recordsOf certificates certificatesEnd stampsAt leadersFrom
     stampsFrom commitFrom commitOf formOf version1 viewOf slotsOf
 own x m g = absurd (List·Memᴰ·not-nil m)
@@ -70,16 +73,16 @@ own x m g = absurd (List·Memᴰ·not-nil m)
 string : List ℕ
 string = chainString (formOf three) 1 one (replicate 32 0)
 
-one-string : every (λ x. same x string) (strings three sampleSubmission sampleSubmission acts) ≡ true
-unfolding every same string strings three one ballot acts sampleRoster sampleKey sampleSubmission be number numberAt flatMap cluster keyOf treeType levels signatureSize signatureLength
+one-string : every (λ x. same x string) (strings three both acts) ≡ true
+unfolding every same string strings stringsIn both three one ballot acts sampleRoster sampleKey sampleSubmission be number numberAt flatMap cluster keyOf treeType levels signatureSize signatureLength
     pathAt oneTimeBytes row height word recordCount leaderCount distance view recordSize recordsOf certificates certificatesEnd stampsAt leadersFrom stampsFrom commitFrom commitOf
     formOf version1 viewOf first held after chainStrings chainFrom chainString
 one-string = refl
 
-alike : (x : List ℕ) → List·Memᴰ x (strings three sampleSubmission sampleSubmission acts) → x ≡ string
+alike : (x : List ℕ) → List·Memᴰ x (strings three both acts) → x ≡ string
 alike x m = same-true x string (every-mem (λ x. same x string) _ one-string x m)
 
-apart : Apart (strings three sampleSubmission sampleSubmission acts) (strings three sampleSubmission sampleSubmission acts)
+pub apart : Apart (strings three both acts) (strings three both acts)
 unfolding Apart
 apart x y mx my e = alike x mx ∙ sym (alike y my)
 
@@ -92,28 +95,28 @@ unfolding three buffer auditNumber short answer sampleKey sampleRoster sampleSub
 accepted = refl
 
 -- replica 1 is one of the three
-a-replica : 1 ≤ replicas three
+pub a-replica : 1 ≤ replicas three
 unfolding three sampleRoster sampleKey be flatMap replicas numberAt number
 a-replica = lit≤ tt
 
 -- the submission's bytes are below 256
-tested : (l : List ℕ) → every (λ b. ltb b 256) l ≡ true → Bytes l
+pub tested : (l : List ℕ) → every (λ b. ltb b 256) l ≡ true → Bytes l
 unfolding every
 tested [] e = none
 tested (b ∷ l) e = let p = cond-true (ltb b 256) (every (λ b. ltb b 256) l) e in more (ltb-true b 256 (p .0)) (tested l (p .1))
 
-bytes : Bytes sampleSubmission
+pub bytes : Bytes sampleSubmission
 unfolding sampleSubmission be flatMap every
 bytes = tested _ refl
 
 -- all at once
 premises-met : Bytes sampleSubmission × (auditNumber three sampleSubmission sampleSubmission buffer ≡ 0) × (1 ≤ replicas three)
-    × (keeps (formOf three) (replicas three) first acts ≡ true) × OwnSignatures three sampleSubmission sampleSubmission 1 acts
-    × Apart (strings three sampleSubmission sampleSubmission acts) (strings three sampleSubmission sampleSubmission acts)
+    × (keeps (formOf three) (replicas three) first acts ≡ true) × OwnSignatures three both 1 acts
+    × Apart (strings three both acts) (strings three both acts)
 premises-met = (bytes, accepted, a-replica, kept, own, apart)
 
 -- and what fairness says then: replica 1 is not named
 not-named : signer (namedIn (reportAfter three sampleSubmission sampleSubmission buffer)) 1 ≡ false
-unfolding Fairness
+unfolding Fairness Fair both
 not-named =
     fairness three sampleSubmission sampleSubmission buffer bytes bytes (λ e. omega (arith, accepted, e)) 1 (lit< tt) a-replica acts kept own apart

@@ -2,7 +2,7 @@
 -- Assumes nothing.
 use mathlib.Core.Path.{_≡_, refl, sym, subst, _∙_}
 use mathlib.Core.Bool.{true, false, true≢false}
-use mathlib.Core.List.{List, [], _∷_, _++_, flatMap, List·Memᴰ, List·Memᴰ·head}
+use mathlib.Core.List.{List, [], _∷_, _++_, flatMap, append-nil, List·Memᴰ, List·Memᴰ·head}
 use mathlib.Core.Logic.{⊎-elim}
 use Prim.Native.Nat.{ℕ, suc, _≤_, _<_}
 use borrow.Author.Tests.{eq-eqb}
@@ -21,7 +21,7 @@ use Rattle.submission.specs.Validate.{formOf, viewOf, slotsOf}
 use Rattle.log_chain.specs.Difference.{differAt}
 use Rattle.forensics.specs.Findings.{fork}
 use Rattle.report.specs.Report.{namedIn}
-use Rattle.report.specs.Claims.{Differ, Naming, OwnSignatures, strings, Fairness}
+use Rattle.report.specs.Claims.{Differ, Naming, OwnSignatures, stringsIn, strings, Fair, Fairness}
 
 -- records that are not the same differ
 itself : (r : Record) → sameRecord r r ≡ true
@@ -56,8 +56,9 @@ module _ (roster s₁ s₂ : List ℕ) (number : ℕ) (report : List ℕ) where
       → ((x : Slot) → List·Memᴰ x (slotsOf roster s₁ ++ slotsOf roster s₂) → good (keyOf roster k) (say (formOf roster) (x .claim)) (x .signature) ≡ true → ⊥)
       → (let C = chainStrings (formOf roster) (viewOf roster s₁ .log) ++ chainStrings (formOf roster) (viewOf roster s₂ .log) in Apart C C)
       → signer (namedIn report) k ≡ false
-  unfolding Fairness OwnSignatures strings keeps held first chainStrings chainFrom flatMap
-  silent claim other k low high bad apart = claim other k low high [] refl (λ x m g. absurd (bad x m g)) apart
+  unfolding Fairness Fair OwnSignatures strings stringsIn keeps held first chainStrings chainFrom flatMap
+  silent claim other k low high bad apart =
+      claim other k low high [] refl (λ x m g. absurd (bad x (rw (append-nil (slotsOf roster s₂)) at m) g)) (rw append-nil apart)
 
   -- and one that has raised its term and cast one vote, if each good signature under its key stands on that vote's bytes
   voter : Fairness roster s₁ s₂ number report → (number ≡ 1 → ⊥) → (k : ℕ) → 0 < k → k ≤ replicas roster
@@ -66,6 +67,6 @@ module _ (roster s₁ s₂ : List ℕ) (number : ℕ) (report : List ℕ) where
       → say (formOf roster) (x .claim) ≡ say (formOf roster) (voted b))
       → (let C = chainStrings (formOf roster) (viewOf roster s₁ .log) ++ chainStrings (formOf roster) (viewOf roster s₂ .log) in Apart C C)
       → signer (namedIn report) k ≡ false
-  unfolding Fairness OwnSignatures strings signed signs after held first chainStrings chainFrom flatMap
+  unfolding Fairness Fair OwnSignatures strings stringsIn signed signs after held first chainStrings chainFrom flatMap
   voter claim other k low high b keep own apart =
-      claim other k low high (raise 0 ∷ vote b ∷ []) keep (λ x m g. List·Memᴰ·head (own x m g)) apart
+      claim other k low high (raise 0 ∷ vote b ∷ []) keep (λ x m g. List·Memᴰ·head (own x (rw (append-nil (slotsOf roster s₂)) at m) g)) (rw append-nil apart)

@@ -1,7 +1,7 @@
 -- Demand 3, on the number and the bytes of a report: naming and fairness.
 use mathlib.Core.Path.{_≡_}
 use mathlib.Core.Bool.{true, false}
-use mathlib.Core.List.{List, _++_, map, flatMap, List·Memᴰ}
+use mathlib.Core.List.{List, [], _∷_, _++_, map, flatMap, List·Memᴰ}
 use mathlib.Core.Option.{some}
 use Prim.Native.Nat.{ℕ, _≤_, _<_}
 use lib.ListN.{getElem?}
@@ -35,27 +35,36 @@ module _ (roster s₁ s₂ : List ℕ) where
       number ≡ 0 → Differ (committed (viewOf roster s₁)) (committed (viewOf roster s₂))
       → namedIn report ≡ 0 → ⊥
 
-  -- ---- fairness
+-- ---- fairness
 
-  -- each signature in the two submissions that is good under the replica's key stands on a statement signed
-  -- in the list
-  unfoldable pub OwnSignatures : ℕ → List Act → Type 0
-  OwnSignatures k acts =
-      (x : Slot) → List·Memᴰ x (slotsOf roster s₁ ++ slotsOf roster s₂)
+module _ (roster : List ℕ) where
+  -- each signature in some submissions that is good under the replica's key stands on a statement signed in
+  -- the list
+  unfoldable pub OwnSignatures : List (List ℕ) → ℕ → List Act → Type 0
+  OwnSignatures submissions k acts =
+      (x : Slot) → List·Memᴰ x (flatMap (slotsOf roster) submissions)
       → good (keyOf roster k) (say (formOf roster) (x .claim)) (x .signature) ≡ true
       → List·Memᴰ (say (formOf roster) (x .claim)) (map (say (formOf roster)) (signed first acts))
 
-  -- the chain strings of every log held and of the two submissions
-  unfoldable pub strings : List Act → List (List ℕ)
-  strings acts =
-      flatMap (chainStrings (formOf roster)) (held first acts)
-      ++ chainStrings (formOf roster) (viewOf roster s₁ .log)
-      ++ chainStrings (formOf roster) (viewOf roster s₂ .log)
+  -- the chain strings of a submission's log
+  unfoldable pub stringsIn : List ℕ → List (List ℕ)
+  stringsIn s = chainStrings (formOf roster) (viewOf roster s .log)
 
-  -- a replica whose acts all kept the board rules is never named, whatever others did or sent: one claim over
-  -- its whole list of acts. With number 1 there is no report
-  unfoldable pub Fairness : ℕ → List ℕ → Type 0
-  Fairness number report =
-      (number ≡ 1 → ⊥) → (k : ℕ) → 0 < k → k ≤ replicas roster
+  -- the chain strings of every log held and of some submissions
+  unfoldable pub strings : List (List ℕ) → List Act → List (List ℕ)
+  strings submissions acts =
+      flatMap (chainStrings (formOf roster)) (held first acts)
+      ++ flatMap stringsIn submissions
+
+  -- a replica whose acts all kept the board rules is not among those named by some submissions, whatever
+  -- others did or sent: one claim over its whole list of acts
+  unfoldable pub Fair : List (List ℕ) → ℕ → Type 0
+  Fair submissions named =
+      (k : ℕ) → 0 < k → k ≤ replicas roster
       → (acts : List Act) → keeps (formOf roster) (replicas roster) first acts ≡ true
-      → OwnSignatures k acts → Apart (strings acts) (strings acts) → signer (namedIn report) k ≡ false
+      → OwnSignatures submissions k acts → Apart (strings submissions acts) (strings submissions acts)
+      → signer named k ≡ false
+
+  -- of an audit of two; with number 1 there is no report
+  unfoldable pub Fairness : List ℕ → List ℕ → ℕ → List ℕ → Type 0
+  Fairness s₁ s₂ number report = (number ≡ 1 → ⊥) → Fair (s₁ ∷ s₂ ∷ []) (namedIn report)

@@ -1,13 +1,14 @@
--- A replica whose bit is a one stands in the mask's list of replicas: by induction over the bits.
+-- A replica whose bit is a one stands in the mask's list of replicas: by induction over the bits. Masks with no one, and two together.
 -- Assumes nothing.
-use mathlib.Core.Path.{_≡_}
+use mathlib.Core.Path.{_≡_, ap, _∙_}
 use mathlib.Core.Bool.{true, false, cond}
 use mathlib.Core.List.{_∷_, List·Memᴰ, List·Memᴰ·head, List·Memᴰ·tail, Memᴰ·cast}
 use mathlib.Core.Logic.{_⊎_, inl, inr, ⊎-elim}
 use Prim.Native.Nat.{ℕ, zero, suc, _+_, _-_, _/_, _%_, _^_, _≤_, _<_}
 use native.Mathlib.Nat.{div-one, zero-div}
 use native.Mathlib.Omega.{arith}
-use borrow.Author.Tests.{eq-eqb, eqb-true}
+use borrow.Author.Tests.{eq-eqb, eqb-true, eqb-false}
+use lib.Bits.{bitOr, or-mod, or-shr, or-zero-l}
 use lib.Dec.{eqb}
 use Rattle.refusal.proofs.Laws.{look}
 use Rattle.roster.specs.Masks.{signer, replicasFrom, replicasOf}
@@ -41,3 +42,16 @@ signer-positive (suc mask) k e = omega arith
 -- and 0 has none
 pub signer-none : (k : ℕ) → signer 0 k ≡ false
 signer-none k = ⊎-elim (λ (e : signer 0 k ≡ true). absurd (omega (arith, signer-positive 0 k e))) (λ e. e) (look (signer 0 k))
+
+-- ---- two masks together
+
+-- a union has a signer only where one of the two has
+pub or-clear : (a b k : ℕ) → signer a k ≡ false → signer b k ≡ false → signer (bitOr a b) k ≡ false
+unfolding signer
+or-clear a b k e d =
+    let j = k - 1 in
+    let low : (x : ℕ) → eqb (x % 2) 1 ≡ false → x % 2 ^ 1 ≡ 0 = λ x h. let z = eqb-false (x % 2) 1 h in omega arith in
+    let none : bitOr (a / 2 ^ j) (b / 2 ^ j) % 2 ^ 1 ≡ 0 =
+    or-mod (a / 2 ^ j) (b / 2 ^ j) 1 ∙ ap (λ x. bitOr x (b / 2 ^ j % 2 ^ 1)) (low (a / 2 ^ j) e) ∙ or-zero-l (b / 2 ^ j % 2 ^ 1) ∙ low (b / 2 ^ j) d in
+    let even : bitOr (a / 2 ^ j) (b / 2 ^ j) % 2 ≡ 0 = none in
+    rw (or-shr a b j, even)

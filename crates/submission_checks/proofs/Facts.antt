@@ -1,10 +1,10 @@
 -- What the functions say is what the checks ask, of the trailer's counts and places; and the checks one after the other.
 -- Assumes nothing.
 use mathlib.Core.Path.{_≡_, sym, _∙_}
-use mathlib.Core.Bool.{Bool, true, false, not}
+use mathlib.Core.Bool.{Bool, true}
 use mathlib.Core.List.{List}
 use Prim.Native.Nat.{ℕ, _≤_}
-use borrow.Author.Tests.{leb-true, not-true, not-false}
+use borrow.Author.Tests.{leb-true}
 use lib.Dec.{eqb}
 use lib.ListN.{length}
 use Rattle.refusal.specs.Checks.{every, check, refusal}
@@ -23,15 +23,6 @@ use Rattle.submission_parts.specs.declared.Shape.{Shape}
 use Rattle.submission_parts.specs.Shapes.{Known}
 use Rattle.submission_parts.proofs.Shapes.{known-records, known-leaders}
 use Rattle.submission_checks.specs.Checks.{leaderChecks, logChecks, partChecks}
-
--- ---- a test that the code has asked
-
-module _ {r b : Bool} (e : r ≡ b) where
-  pub met : not r ≡ false → b ≡ true
-  met h = sym e ∙ not-false r h
-
-  pub unmet : not r ≡ true → b ≡ false
-  unmet h = sym e ∙ not-true r h
 
 -- ---- what the checks ask
 

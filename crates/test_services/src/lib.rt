@@ -6,6 +6,8 @@ ghost use Rattle.lm_answer.specs.Number.{answerNumber};
 ghost use Rattle.lms.specs.Check.{answer};
 ghost use Rattle.report.specs.Report.{auditNumber, reportAfter};
 ghost use Rattle.report.specs.Claims.{Naming, Fairness};
+ghost use Rattle.district.specs.District.{districtNumber, districtAfter};
+ghost use Rattle.district.specs.Claims.{DistrictNaming, DistrictFairness};
 
 pub fn sha256(message: &[u8], digest: &mut [u8; 32]) -> u32
     ensures number { λ r. ⌜ r ≡ digestNumber (now (message .entry)) ⌝ }
@@ -34,4 +36,19 @@ pub fn audit(roster: &[u8], first: &[u8], second: &[u8], report: &mut [u8]) -> u
         (now (report .exit)) ⌝ }
 {
     hirelog::hirelog_audit(roster, first, second, report)
+}
+
+pub fn district(roster: &[u8], buffer: &[u8], lengths: &[u32], report: &mut [u8]) -> u32
+    ensures number { λ r. ⌜ r
+        ≡ districtNumber (now (roster .entry)) (now (buffer .entry)) (now (lengths .entry))
+        (now (report .entry)) ⌝ }
+    ensures bytes { λ _. ⌜ now (report .exit)
+        ≡ districtAfter (now (roster .entry)) (now (buffer .entry)) (now (lengths .entry))
+        (now (report .entry)) ⌝ }
+    ensures naming { λ r. ⌜ DistrictNaming (now (roster .entry)) (now (buffer .entry))
+        (now (lengths .entry)) r (now (report .exit)) ⌝ }
+    ensures fairness { λ r. ⌜ DistrictFairness (now (roster .entry)) (now (buffer .entry))
+        (now (lengths .entry)) r (now (report .exit)) ⌝ }
+{
+    hirelog::hirelog_district(roster, buffer, lengths, report)
 }

@@ -7,9 +7,9 @@ use native.Mathlib.Nat.{le-refl}
 use native.Mathlib.Omega.{arith}
 use borrow.Rule.Slice.PartMut.{putMid}
 use lib.ListN.{length, take, drop, length-append, length-drop, drop-of-length-le}
-use lib.Seq.{take-at, drop-at, drop-drop}
+use lib.Seq.{take-at, drop-at, drop-drop, sets}
 use Rattle.words.specs.Over.{over}
-use Rattle.words.proofs.Laws.{part-end}
+use Rattle.words.proofs.Laws.{part-end, sets-next}
 
 -- nothing written
 pub over-nothing : (e : List ℕ) → over [] e ≡ e
@@ -50,3 +50,10 @@ lent-on W e B a h room =
     let short : length (drop a X) ≤ length X - a = rw length-drop (le-refl (length X - a)) in
     let none : drop (length X - a) (drop a X) ≡ [] = drop-of-length-le (drop a X) short in
     (λ i. take a X ++ (over B (whole i) ++ none i)) ∙ ap (λ z. take a X ++ z) (append-nil (over B (drop a X))) ∙ over-more W e B a h
+
+-- stores from the place on where what was written ends
+pub over-next : (W e vs : List ℕ) (k : ℕ) → length W ≡ k → k + length vs ≤ length e → sets (over W e) k vs ≡ over (W ++ vs) e
+unfolding over
+over-next W e vs k h room =
+    let size : k + length vs ≡ length (W ++ vs) = sym (length-append W vs ∙ ap (λ (n : ℕ). n + length vs) h) in
+    ap (λ (n : ℕ). sets (W ++ drop n e) k vs) h ∙ sets-next W e vs k (k + length vs) h refl room ∙ ap (λ (n : ℕ). W ++ vs ++ drop n e) size

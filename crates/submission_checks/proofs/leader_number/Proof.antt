@@ -2,11 +2,11 @@
 -- Assumes nothing.
 use mathlib.Core.Path.{sym, _∙_}
 use native.Mathlib.Omega.{arith}
-use Rattle.refusal.proofs.Laws.{passed, refused}
+use Rattle.refusal.proofs.Laws.{passed, refused, met, unmet}
 use Rattle.roster.specs.Roster.{cluster}
 use Rattle.roster.proofs.Accepted.{sizes}
 use Rattle.submission_checks.specs.Checks.{leaderChecks}
-use Rattle.submission_checks.proofs.Facts.{met, unmet, leaders-passed}
+use Rattle.submission_checks.proofs.Facts.{leaders-passed}
 use Rattle.submission_checks.proofs.leader_number.Statement.{statement}
 use Rattle.submission_checks.proofs.leader_number.Tie as tie
 

@@ -2,10 +2,10 @@
 -- Assumes nothing.
 use mathlib.Core.Path.{sym, _∙_}
 use borrow.Author.Tests.{eq-eqb, ne-eqb}
-use Rattle.refusal.proofs.Laws.{passed, refused}
+use Rattle.refusal.proofs.Laws.{passed, refused, met, unmet}
 use Rattle.submission_checks.specs.Checks.{logChecks}
 use Rattle.submission_parts.proofs.Shapes.{records-room}
-use Rattle.submission_checks.proofs.Facts.{met, unmet, asked-ordered, asked-count}
+use Rattle.submission_checks.proofs.Facts.{asked-ordered, asked-count}
 use Rattle.submission_checks.proofs.log_number.Statement.{statement}
 use Rattle.submission_checks.proofs.log_number.Tie as tie
 

@@ -4,12 +4,12 @@ use mathlib.Core.Path.{sym, _∙_}
 use native.Mathlib.Omega.{arith}
 use borrow.Author.Needs.{needs}
 use lib.Dec.{lit≤}
-use Rattle.refusal.proofs.Laws.{passed, refused}
+use Rattle.refusal.proofs.Laws.{passed, refused, met, unmet}
 use Rattle.roster.proofs.Accepted.{sizes, signature-bounds}
 use Rattle.log_chain.specs.Log.{version1}
 use Rattle.submission.specs.Validate.{formOf, validate}
 use Rattle.submission_parts.proofs.Inside.{bounds}
-use Rattle.submission_checks.proofs.Facts.{met, unmet, sized-long, trailer-passed}
+use Rattle.submission_checks.proofs.Facts.{sized-long, trailer-passed}
 use Rattle.submission_checks.proofs.number.Statement.{statement}
 use Rattle.submission_checks.proofs.number.Tie as tie
 

@@ -2,11 +2,10 @@
 -- Assumes nothing.
 use mathlib.Core.Path.{refl, sym, _∙_}
 use native.Mathlib.Omega.{arith}
-use Rattle.refusal.proofs.Laws.{passed, refused}
+use Rattle.refusal.proofs.Laws.{passed, refused, met, unmet}
 use Rattle.roster.proofs.Accepted.{sizes}
 use Rattle.submission_parts.specs.Shapes.{shapeOf}
 use Rattle.submission_checks.specs.Checks.{partChecks}
-use Rattle.submission_checks.proofs.Facts.{met, unmet}
 use Rattle.submission_checks.proofs.part_number.Statement.{statement}
 use Rattle.submission_checks.proofs.part_number.Tie as tie
 

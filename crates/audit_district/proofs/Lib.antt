@@ -1,0 +1,3 @@
+mod Judged
+mod Run
+mod Tail

@@ -1,0 +1,50 @@
+-- A submission of number 0 goes behind those that are there; any other leaves them.
+-- Assumes nothing.
+use mathlib.Core.Path.{_≡_, sym, _∙_}
+use mathlib.Core.List.{append-nil}
+use Prim.Native.Nat.{suc, _+_, _≤_, _<_}
+use native.Mathlib.Omega.{arith}
+use borrow.Author.Needs.{needs}
+use borrow.Author.Tests.{eq-eqb, ne-eqb}
+use lib.ListN.{length, length-set}
+use lib.Seq.{take-suc-set}
+use Rattle.district_pairs.specs.declared.Part.{Part}
+use Rattle.district_pairs.specs.Entries.{partsOf, judged}
+use Rattle.district_pairs.proofs.with_judged.Statement.{statement}
+use Rattle.district_pairs.proofs.with_judged.Tie as tie
+
+returns : tie.Need-returns
+unfolding judged
+returns c =
+    let a = c .before .args in
+    let room = c .before .pre .0 in
+    let fewer : a .entries .count ≤ suc (a .i) = omega (arith, room .taken) in (
+      rw (ne-eqb (a .number) 0 (c .if1 .taken)) (sym (append-nil (partsOf (a .entries)))),
+      record { places = room .places; taken = fewer },
+    )
+
+returns-2 : tie.Need-returns-2
+unfolding partsOf judged
+returns-2 c =
+    let a = c .before .before .args in
+    let room = c .before .before .pre .0 in
+    let next : a .entries .count + 1 ≡ suc (a .entries .count) = omega arith in
+    let place : a .i + 1 ≡ suc (a .i) = omega arith in
+    let inside : a .entries .count < length (a .entries .parts) = omega (arith, room .places, room .taken, c .before .before .pre .1) in
+    let part : Part = record { position = a .i + 1; start = a .start; size = a .size } in
+    let fewer : a .entries .count + 1 ≤ suc (a .i) = omega (arith, room .taken) in (
+      rw (eq-eqb (a .number) 0 (c .before .if1 .left), next, place) (take-suc-set (a .entries .parts) (a .entries .count) _ inside),
+      record { places = length-set (a .entries .parts) (a .entries .count) part ∙ room .places; taken = fewer },
+    )
+
+pub with-judged-spec : {M : Type 1} → statement M
+with-judged-spec =
+    tie.close
+    (tie.spec
+    returns
+    (λ c. search needs)
+    (λ c. search needs)
+    (λ c. search needs)
+    (λ c. search needs)
+    (λ c. search needs)
+    returns-2)
