@@ -1,6 +1,7 @@
 -- Worked examples of a run: the number, every byte of the report and what is kept; which pairs there are; and which fork is the first.
 -- Assumes nothing.
-use mathlib.Core.Path.{_≡_, refl}
+use mathlib.Core.Path.{_≡_, refl, ap}
+use mathlib.Core.Bool.{Bool, cond}
 use mathlib.Core.List.{List, [], _∷_, _++_, map, flatMap}
 use Prim.Native.Nat.{ℕ}
 use borrow.Author.Tests.{eq-eqb, ne-eqb}
@@ -57,10 +58,13 @@ every-two a b c = refl
 
 -- of two pairs that fork the first by position stays, whatever their indexes; a pair that does not fork is passed over
 module _ (roster : List ℕ) (p q : Pair) where
-  first-stays : (found roster p .fork ≡ 0 → ⊥) → (found roster q .fork ≡ 0 → ⊥) → firstFork roster (p ∷ q ∷ []) .lower ≡ p .lower .position
-  unfolding firstFork
-  first-stays h k = rw (ne-eqb _ 0 h)
+  first-or-later : Bool → ℕ
+  first-or-later none = cond none (firstFork roster (q ∷ [])) (record { index = found roster p .fork; lower = p .lower .position; higher = p .higher .position }) .lower
 
-  passed-over : found roster p .fork ≡ 0 → (found roster q .fork ≡ 0 → ⊥) → firstFork roster (p ∷ q ∷ []) .higher ≡ q .higher .position
-  unfolding firstFork
-  passed-over h k = rw (eq-eqb _ 0 h, ne-eqb _ 0 k)
+  first-stays : (found roster p .fork ≡ 0 → ⊥) → (found roster q .fork ≡ 0 → ⊥) → firstFork roster (p ∷ q ∷ []) .lower ≡ p .lower .position
+  unfolding firstFork first-or-later
+  first-stays h k = ap first-or-later (ne-eqb (found roster p .fork) 0 h)
+
+  passed-over : found roster p .fork ≡ 0 → firstFork roster (p ∷ q ∷ []) .lower ≡ firstFork roster (q ∷ []) .lower
+  unfolding firstFork first-or-later
+  passed-over h = ap first-or-later (eq-eqb (found roster p .fork) 0 h)

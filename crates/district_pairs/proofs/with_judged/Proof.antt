@@ -1,12 +1,12 @@
 -- A submission of number 0 goes behind those that are there; any other leaves them.
 -- Assumes nothing.
-use mathlib.Core.Path.{_≡_, sym, _∙_}
-use mathlib.Core.List.{append-nil}
-use Prim.Native.Nat.{suc, _+_, _≤_, _<_}
+use mathlib.Core.Path.{_≡_, sym, ap, _∙_}
+use mathlib.Core.List.{List, [], _∷_, _++_, append-nil}
+use Prim.Native.Nat.{ℕ, suc, _+_, _≤_, _<_}
 use native.Mathlib.Omega.{arith}
 use borrow.Author.Needs.{needs}
 use borrow.Author.Tests.{eq-eqb, ne-eqb}
-use lib.ListN.{length, length-set}
+use lib.ListN.{length, take, length-set}
 use lib.Seq.{take-suc-set}
 use Rattle.district_pairs.specs.declared.Part.{Part}
 use Rattle.district_pairs.specs.Entries.{partsOf, judged}
@@ -32,8 +32,10 @@ returns-2 c =
     let place : a .i + 1 ≡ suc (a .i) = omega arith in
     let inside : a .entries .count < length (a .entries .parts) = omega (arith, room .places, room .taken, c .before .before .pre .1) in
     let part : Part = record { position = a .i + 1; start = a .start; size = a .size } in
+    let behind : ℕ → List Part = λ k. take (a .entries .count) (a .entries .parts) ++ (record { position = k; start = a .start; size = a .size } ∷ []) in
     let fewer : a .entries .count + 1 ≤ suc (a .i) = omega (arith, room .taken) in (
-      rw (eq-eqb (a .number) 0 (c .before .if1 .left), next, place) (take-suc-set (a .entries .parts) (a .entries .count) _ inside),
+      rw (eq-eqb (a .number) 0 (c .before .if1 .left), next)
+          (take-suc-set (a .entries .parts) (a .entries .count) part inside ∙ ap behind place),
       record { places = length-set (a .entries .parts) (a .entries .count) part ∙ room .places; taken = fewer },
     )
 
