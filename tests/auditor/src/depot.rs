@@ -1,5 +1,9 @@
 //! Document 02, W1, The whole district at once: the depot's run over a list of submissions, on this
 //! package's own judgement of one submission and its own audit of a pair.
+//!
+//! - `cases`: the runs that tests/compare compares.
+
+pub mod cases;
 
 use crate::audit::compare;
 use crate::bytes::u16_at;
