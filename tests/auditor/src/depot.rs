@@ -1,9 +1,11 @@
 //! Document 02, W1, The whole district at once: the depot's run over a list of submissions, on this
 //! package's own judgement of one submission and its own audit of a pair.
 //!
-//! - `cases`: the runs that tests/compare compares.
+//! - `cases`: the runs that tests/compare compares;
+//! - `samples`: the districts that make_cases writes.
 
 pub mod cases;
+pub mod samples;
 
 use crate::audit::compare;
 use crate::bytes::u16_at;
