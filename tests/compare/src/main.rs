@@ -4,7 +4,7 @@
 //! compare fresh [CALL..]         fewer, from a fresh seed; SEED=n gives the seed
 //! compare soak SECONDS [CALL..]  fresh sets of each call in turn, until the time is up
 //! compare replay FOLDER          one case, from the files that a difference leaves behind
-//! compare premises               the premises of fairness, on pairs that fork
+//! compare premises               the premises of fairness, on pairs that fork, and on lists
 //!
 //! A CALL is sha256, lms_check, district or audit; without one all are run. A case that differs is written to
 //! a folder (src/folder.rs): FAILED if it is set, otherwise compare.failed in the current folder.
@@ -32,10 +32,14 @@ fn main() {
             Err(_) => stop("SECONDS is not a number"),
         },
         ["replay", folder] => replay(Path::new(folder)),
-        ["premises"] => match premises::hold() {
-            Ok(found) => println!("compare: {found}"),
-            Err(why) => stop(&format!("premises: {why}")),
-        },
+        ["premises"] => {
+            for held in [premises::hold(), premises::hold_in_lists()] {
+                match held {
+                    Ok(found) => println!("compare: {found}"),
+                    Err(why) => stop(&format!("premises: {why}")),
+                }
+            }
+        }
         _ => stop(
             "use: compare fixed|fresh [CALL..] | soak SECONDS [CALL..] | replay FOLDER | premises",
         ),

@@ -34,6 +34,24 @@ extern "C" {
     ) -> u32;
 }
 
+/// The library's run over slices: the number, with the report's bytes in the buffer if that is 0.
+pub fn run(roster: &[u8], buffer: &[u8], lengths: &[u32], report: &mut [u8]) -> u32 {
+    // SAFETY: each pointer is a slice's, with the slice's length; the report is lent to nobody
+    // else.
+    unsafe {
+        hirelog_district(
+            roster.as_ptr(),
+            roster.len(),
+            buffer.as_ptr(),
+            buffer.len(),
+            lengths.as_ptr(),
+            lengths.len(),
+            report.as_mut_ptr(),
+            report.len(),
+        )
+    }
+}
+
 #[derive(Default)]
 pub struct District {
     verdicts: RefCell<Verdicts>,
@@ -62,6 +80,10 @@ impl Call for District {
         let [report] = outputs else { unreachable!("one output") };
         // Numbers of the machine, aligned as such.
         let aligned = lengths.bytes().map(read);
+        let given = (roster.bytes(), buffer.bytes(), &aligned, report.bytes());
+        if let (Some(roster), Some(buffer), Some(lengths), Some(report)) = given {
+            return vec![run(roster, buffer, lengths, report).into()];
+        }
         let start = aligned.as_ref().map_or(ptr::null(), |lengths| lengths.as_ptr());
         // SAFETY: as the harness says; there are as many lengths as are read.
         let number = unsafe {
