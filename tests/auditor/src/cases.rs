@@ -2,7 +2,7 @@
 //! submissions, and pairs of accepted ones. A seed chooses what is not fixed.
 
 pub mod accepted;
-mod change;
+pub mod change;
 mod commits;
 mod damaged;
 mod edges;
@@ -89,6 +89,25 @@ pub enum Size {
     Small,
 }
 
+impl Size {
+    /// As many in the full set; a few of them in the small one.
+    pub fn count(self, full: usize) -> usize {
+        match self {
+            Size::Full => full,
+            Size::Small => full.div_ceil(10),
+        }
+    }
+
+    /// All of them in the full set; some in the small one.
+    pub fn some<T>(self, mut values: Vec<T>, few: usize, random: &mut Random) -> Vec<T> {
+        if self == Size::Small {
+            crate::district::shuffle(&mut values, random);
+            values.truncate(few);
+        }
+        values
+    }
+}
+
 /// Every kind of case from this seed, each handed to `take`.
 pub fn run(seed: u64, size: Size, take: &mut dyn FnMut(&Case)) {
     let mut cases = Cases {
@@ -130,21 +149,12 @@ struct Cases<'a> {
 }
 
 impl Cases<'_> {
-    /// As many in the full set; a few of them in the small one.
     fn count(&self, full: usize) -> usize {
-        match self.size {
-            Size::Full => full,
-            Size::Small => full.div_ceil(10),
-        }
+        self.size.count(full)
     }
 
-    /// All of them in the full set; some in the small one.
-    fn some<T>(&mut self, mut values: Vec<T>, few: usize) -> Vec<T> {
-        if self.size == Size::Small {
-            crate::district::shuffle(&mut values, &mut self.random);
-            values.truncate(few);
-        }
-        values
+    fn some<T>(&mut self, values: Vec<T>, few: usize) -> Vec<T> {
+        self.size.some(values, few, &mut self.random)
     }
 
     /// The cluster of n replicas with this tree type.
@@ -214,5 +224,13 @@ pub fn whole(signer: &Signer) -> Draft {
     signer.submission(&records, &[(1, q), (last, other)], Some((2, q)))
 }
 
+/// One record for each letter, all of term 1, which replica 1 leads; committed up to an index by
+/// those who elected it, or not at all for 0.
+pub fn led(signer: &Signer, letters: &str, signers: u16, commit: u32) -> Draft {
+    let payloads: Vec<String> = letters.chars().map(String::from).collect();
+    let records: Vec<(u32, &str)> = payloads.iter().map(|payload| (1, &payload[..])).collect();
+    signer.submission(&log(&records), &[(1, signers)], (commit > 0).then_some((commit, signers)))
+}
+
 #[cfg(test)]
-mod tests;
+pub mod tests;

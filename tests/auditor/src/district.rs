@@ -266,6 +266,11 @@ impl District {
         sha256(&[b"payload", &self.payloads.to_be_bytes()])
     }
 
+    /// How many replicas there are.
+    pub fn n(&self) -> usize {
+        self.n
+    }
+
     /// What an honest replica has done, in its order.
     pub fn acts(&self, replica: u16) -> &[Act] {
         &self.lives[replica as usize - 1].replica.acts

@@ -3,7 +3,8 @@
 //! Written from document 01 and the RFCs alone:
 //! - `sha256`, `lms`: the two smaller services;
 //! - `numbers`, `roster`, `statement`, `submission`, `audit`, `program`: the audit, its numbers,
-//!   its report and the lines that the program prints.
+//!   its report and the lines that the program prints;
+//! - `depot`, from document 02, W1, besides: the run over a list of submissions, with its cases.
 //!
 //! What makes inputs for both sides:
 //! - `lms::sign`, `cluster`: keys and rosters;
@@ -18,6 +19,7 @@ pub mod build;
 pub mod bytes;
 pub mod cases;
 pub mod cluster;
+pub mod depot;
 pub mod district;
 pub mod hex;
 pub mod leaves;

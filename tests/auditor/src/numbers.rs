@@ -1,6 +1,6 @@
 //! Document 01, What stops an audit, and The report: the numbers, as this auditor gives them, and
-//! the rules. The program numbers prints the two lists, which tests/scripts/numbers compares with
-//! docs/NUMBERS.md.
+//! the rules; numbers 17 and 18 are of document 02, W1. The program numbers prints the two lists,
+//! which tests/scripts/numbers compares with docs/NUMBERS.md.
 
 pub const ACCEPTED: u8 = 0;
 pub const SHORT_REPORT: u8 = 1;
@@ -20,6 +20,8 @@ pub const LEADER: u8 = 13;
 pub const COMMIT_INDEX: u8 = 14;
 pub const SIGNATURE: u8 = 15;
 pub const LONG_MESSAGE: u8 = 16;
+pub const LENGTH_COUNT: u8 = 17;
+pub const LENGTH_SUM: u8 = 18;
 
 pub const TWO_VOTES: u8 = 1;
 pub const TWO_STAMPS: u8 = 2;
@@ -29,7 +31,7 @@ pub const STALE_VOTE_EXCHANGED: u8 = 4;
 /// A number or a rule, what it is about, and its word.
 pub type Row = (u8, &'static str, &'static str);
 
-/// Every number; the words are document 01's.
+/// Every number; the words are document 01's, and for 17 and 18 ours, for document 02 has none.
 pub const NUMBERS: &[Row] = &[
     (ACCEPTED, "all", "accepted"),
     (SHORT_REPORT, "report", "short report"),
@@ -48,6 +50,8 @@ pub const NUMBERS: &[Row] = &[
     (COMMIT_INDEX, "submission", "commit index"),
     (SIGNATURE, "submission", "signature"),
     (LONG_MESSAGE, "message", "long message"),
+    (LENGTH_COUNT, "lengths", "length count"),
+    (LENGTH_SUM, "lengths", "length sum"),
 ];
 
 /// Every rule; the words are ours, for document 01 has none.

@@ -14,6 +14,8 @@ pub struct Shape {
     pub returns: &'static [&'static str],
     /// The numbers that have to come up in the fixed set.
     pub numbers: &'static [u64],
+    /// Those that have to come up in it within what is written.
+    pub within: &'static [u64],
     /// The fewest cases of the fixed set, and of a fresh one.
     pub fewest: (u64, u64),
     /// The program of tests/c that runs a case's folder, if there is one.
@@ -35,8 +37,13 @@ pub trait Call {
     /// The auditor: what has to be returned and written.
     fn auditor(&self, inputs: &[&[u8]], outputs: &mut [&mut [u8]]) -> Vec<u64>;
 
+    /// The numbers within what is written by an answer, if there can be some.
+    fn within(&self, _inputs: &[&[u8]], _answer: &Answer) -> Vec<u64> {
+        Vec::new()
+    }
+
     /// What else is wrong with an answer that both sides gave, if something is.
-    fn also_wrong(&self, _answer: &Answer) -> Option<String> {
+    fn also_wrong(&self, _inputs: &[&[u8]], _answer: &Answer) -> Option<String> {
         None
     }
 }

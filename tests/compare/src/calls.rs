@@ -1,6 +1,7 @@
 //! The calls that are compared.
 
 pub mod audit;
+pub mod district;
 pub mod lms_check;
 pub mod sha256;
 
@@ -8,5 +9,10 @@ use crate::call::Call;
 
 /// Every call, the shortest first; each is new, and keeps nothing from a set before.
 pub fn all() -> Vec<Box<dyn Call>> {
-    vec![Box::new(sha256::Sha256), Box::new(lms_check::LmsCheck), Box::<audit::Audit>::default()]
+    vec![
+        Box::new(sha256::Sha256),
+        Box::new(lms_check::LmsCheck),
+        Box::<district::District>::default(),
+        Box::<audit::Audit>::default(),
+    ]
 }

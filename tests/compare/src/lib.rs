@@ -4,7 +4,7 @@
 //! - `run`: both sides asked, and how they differ, in words;
 //! - `folder`: a case as files, from which it can be run again;
 //! - `calls`: the calls that are compared, one file each;
-//! - `premises`: the premises of fairness, on pairs that fork.
+//! - `premises`: the premises of fairness, on pairs that fork, and on lists with a fork.
 //!
 //! The program `compare` (main.rs) runs them.
 

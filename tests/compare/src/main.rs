@@ -4,9 +4,9 @@
 //! compare fresh [CALL..]         fewer, from a fresh seed; SEED=n gives the seed
 //! compare soak SECONDS [CALL..]  fresh sets of each call in turn, until the time is up
 //! compare replay FOLDER          one case, from the files that a difference leaves behind
-//! compare premises               the premises of fairness, on pairs that fork
+//! compare premises               the premises of fairness, on pairs that fork, and on lists
 //!
-//! A CALL is sha256, lms_check or audit; without one all are run. A case that differs is written to
+//! A CALL is sha256, lms_check, district or audit; without one all are run. A case that differs is written to
 //! a folder (src/folder.rs): FAILED if it is set, otherwise compare.failed in the current folder.
 //! With TRACE set, each case is named and written there before it runs, so that one in which the
 //! library crashes is found.
@@ -32,10 +32,14 @@ fn main() {
             Err(_) => stop("SECONDS is not a number"),
         },
         ["replay", folder] => replay(Path::new(folder)),
-        ["premises"] => match premises::hold() {
-            Ok(found) => println!("compare: {found}"),
-            Err(why) => stop(&format!("premises: {why}")),
-        },
+        ["premises"] => {
+            for held in [premises::hold(), premises::hold_in_lists()] {
+                match held {
+                    Ok(found) => println!("compare: {found}"),
+                    Err(why) => stop(&format!("premises: {why}")),
+                }
+            }
+        }
         _ => stop(
             "use: compare fixed|fresh [CALL..] | soak SECONDS [CALL..] | replay FOLDER | premises",
         ),
@@ -116,12 +120,15 @@ fn seed() -> u64 {
 }
 
 fn print(call: &dyn Call, set: &str, counts: &Counts) {
-    let (name, Counts { cases, calls, numbers, .. }) = (call.shape().name, counts);
+    let (name, Counts { cases, calls, numbers, within, .. }) = (call.shape().name, counts);
     println!(
         "compare: {name}, {set}: {cases} cases, {calls} calls of the library, all as expected"
     );
     for (number, count) in numbers {
         println!("compare: {name}, number {number}: {count} cases");
+    }
+    for (number, count) in within {
+        println!("compare: {name}, number {number} within what is written: {count} times");
     }
 }
 

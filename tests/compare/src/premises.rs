@@ -1,24 +1,26 @@
 //! Fairness is not an empty claim: pairs of accepted submissions that fork, in which the library
 //! names somebody, and beside whoever is named replicas that meet every premise, with signatures
-//! of their own in the pair.
+//! of their own in the pair. The same of lists of submissions, in which some pair forks.
 
+use crate::calls::district;
 use auditor::audit::compare;
 use auditor::cluster::Keys;
+use auditor::depot::{self, report_size};
 use auditor::district::premises::Past;
-use auditor::district::{two_of, District};
+use auditor::district::{shuffle, two_of, Claim, District};
 use auditor::random::Random;
 use auditor::roster::{replicas_of, Roster};
 use auditor::submission::Submission;
 use auditor::verdicts::Verdicts;
 
-/// How many pairs that fork are looked for, for each number of replicas.
+/// How many pairs that fork are looked for, for each number of replicas; and how many lists.
 const FORKS: usize = 8;
+const LISTS: usize = 4;
 
-/// What was found; or, as an error, which replica or pair does not meet them.
+/// What was found in pairs; or, as an error, which replica or pair does not meet them.
 pub fn hold() -> Result<String, &'static str> {
-    let (mut pairs, mut replicas, mut signatures) = (0, 0, 0);
+    let (mut pairs, mut sound) = (0, Sound::default());
     let mut random = Random::new(4);
-    let mut verdicts = Verdicts::default();
     let keys = Keys::new("premises");
     for n in [3, 4, 5] {
         let mut forks = 0;
@@ -29,15 +31,12 @@ pub fn hold() -> Result<String, &'static str> {
             let Some((a, b)) = two_of(&claims, &mut random) else {
                 continue;
             };
-            if compare(&a.unsigned(), &b.unsigned()).fork == 0 {
+            if !fork(a, b) {
                 continue;
             }
-            let cluster = keys.cluster_with(n, district.leaves());
-            let signer = district.signer(&cluster);
-            let bytes = cluster.roster();
-            let roster = Roster::read(&bytes).map_err(|_| "no roster")?;
-            let [first, second] = [a, b].map(|claim| claim.draft(&signer).bytes());
-            let Ok(found) = hirelog::audit(&bytes, &first, &second) else {
+            let submitted = Submitted::sign(&keys, &district, &[a, b]);
+            let [first, second] = &submitted.bytes[..] else { unreachable!("two submissions") };
+            let Ok(found) = hirelog::audit(&submitted.roster, first, second) else {
                 return Err("a pair is refused");
             };
             if found.fork.is_none() {
@@ -46,36 +45,127 @@ pub fn hold() -> Result<String, &'static str> {
             if found.charges.iter().all(Option::is_none) {
                 return Err("a fork, and nobody is named");
             }
-            let mut read = |bytes| {
-                let read = Submission::read(&roster, bytes, &mut verdicts);
-                read.map_err(|_| "a submission is refused")
-            };
-            let (first, second) = (read(&first)?, read(&second)?);
-            let two = [&first, &second];
-            for k in replicas_of(district.honest) {
-                let Some(past) = Past::of(district.acts(k), n, &roster.name) else {
-                    return Err("an honest replica's acts break a rule");
-                };
-                let own = past.own_signatures(roster.key(k), &roster.name, two, &mut verdicts);
-                let Some(own) = own.filter(|_| past.strings_apart(two)) else {
-                    return Err("an honest replica does not meet them");
-                };
-                if found.charges[k as usize - 1].is_some() {
-                    return Err("a replica meets them, and is named");
-                }
-                replicas += usize::from(own > 0);
-                signatures += own;
-            }
+            let named = found.charges.iter().enumerate();
+            let named = named.map(|(k, charge)| u16::from(charge.is_some()) << k).sum();
+            sound.look(&district, &submitted, named)?;
             forks += 1;
         }
         pairs += forks;
     }
-    let found = format!(
-        "{pairs} pairs fork and name somebody; in them {replicas} replicas with \
-         {signatures} signatures of their own meet every premise of fairness, and none is named"
-    );
-    if replicas < pairs / 2 {
-        return Err("too few replicas meet them: look at src/district.rs");
+    sound.told(pairs, "pairs fork and name somebody")
+}
+
+/// What was found in lists of up to nine submissions, run over at once; or what does not hold.
+pub fn hold_in_lists() -> Result<String, &'static str> {
+    let (mut lists, mut sound) = (0, Sound::default());
+    let mut random = Random::new(5);
+    let keys = Keys::new("premises");
+    for n in [3, 4, 5] {
+        let mut forks = 0;
+        while forks < LISTS {
+            let cheats = 1 + random.below(n - 1);
+            let district = District::simulate(n, cheats, &mut random);
+            let claims = district.claims(&mut random);
+            let mut list: Vec<&Claim> = claims.iter().collect();
+            shuffle(&mut list, &mut random);
+            list.truncate(depot::MOST);
+            if !list.iter().any(|a| list.iter().any(|b| fork(a, b))) {
+                continue;
+            }
+            let submitted = Submitted::sign(&keys, &district, &list);
+            let lengths: Vec<u32> = submitted.bytes.iter().map(|one| one.len() as u32).collect();
+            let mut report = vec![0xa5; report_size(list.len())];
+            let buffer = submitted.bytes.concat();
+            if district::run(&submitted.roster, &buffer, &lengths, &mut report) != 0 {
+                return Err("a list is refused");
+            }
+            let found = depot::Findings::read(&report, list.len());
+            if found.numbers.iter().any(|number| *number != 0) {
+                return Err("a submission of a list is refused");
+            }
+            if found.fork == (0, 0) {
+                return Err("the auditor finds a fork in a list, and the library none");
+            }
+            if found.named == 0 {
+                return Err("a fork in a list, and nobody is named");
+            }
+            sound.look(&district, &submitted, found.named)?;
+            forks += 1;
+        }
+        lists += forks;
     }
-    Ok(found)
+    sound.told(lists, "lists of submissions have a fork and name somebody")
+}
+
+/// Whether two claims fork.
+fn fork(a: &Claim, b: &Claim) -> bool {
+    compare(&a.unsigned(), &b.unsigned()).fork != 0
+}
+
+/// A roster, and submissions that are made of a district's claims.
+struct Submitted {
+    roster: Vec<u8>,
+    bytes: Vec<Vec<u8>>,
+}
+
+impl Submitted {
+    fn sign(keys: &Keys, district: &District, claims: &[&Claim]) -> Submitted {
+        let cluster = keys.cluster_with(district.n(), district.leaves());
+        let signer = district.signer(&cluster);
+        let bytes = claims.iter().map(|claim| claim.draft(&signer).bytes()).collect();
+        Submitted { roster: cluster.roster(), bytes }
+    }
+}
+
+/// The replicas that meet every premise and signed something, and how many signatures they have.
+#[derive(Default)]
+struct Sound {
+    replicas: usize,
+    signatures: usize,
+    verdicts: Verdicts,
+}
+
+impl Sound {
+    /// Looks at each honest replica: it has to meet the premises, and not to be named.
+    fn look(
+        &mut self,
+        district: &District,
+        submitted: &Submitted,
+        named: u16,
+    ) -> Result<(), &'static str> {
+        let roster = Roster::read(&submitted.roster).map_err(|_| "no roster")?;
+        let verdicts = &mut self.verdicts;
+        let read = submitted.bytes.iter().map(|one| Submission::read(&roster, one, verdicts));
+        let read: Result<Vec<Submission>, u8> = read.collect();
+        let read = read.map_err(|_| "a submission is refused")?;
+        let submissions: Vec<&Submission> = read.iter().collect();
+        for k in replicas_of(district.honest) {
+            let Some(past) = Past::of(district.acts(k), roster.n(), &roster.name) else {
+                return Err("an honest replica's acts break a rule");
+            };
+            let key = roster.key(k);
+            let own = past.own_signatures(key, &roster.name, &submissions, &mut self.verdicts);
+            let Some(own) = own.filter(|_| past.strings_apart(&submissions)) else {
+                return Err("an honest replica does not meet them");
+            };
+            if named >> (k - 1) & 1 == 1 {
+                return Err("a replica meets them, and is named");
+            }
+            self.replicas += usize::from(own > 0);
+            self.signatures += own;
+        }
+        Ok(())
+    }
+
+    /// The same in words, after so many of what was looked at.
+    fn told(&self, count: usize, what: &str) -> Result<String, &'static str> {
+        let Sound { replicas, signatures, .. } = self;
+        if *replicas < count / 2 {
+            return Err("too few replicas meet them: look at src/district.rs");
+        }
+        Ok(format!(
+            "{count} {what}; in them {replicas} replicas with {signatures} signatures of their own \
+             meet every premise of fairness, and none is named"
+        ))
+    }
 }

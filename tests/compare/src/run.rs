@@ -30,6 +30,8 @@ pub struct Counts {
     pub cases: u64,
     pub calls: u64,
     pub numbers: BTreeMap<u64, u64>,
+    /// How often each came within what was written.
+    pub within: BTreeMap<u64, u64>,
     /// Whether a case differed.
     pub failed: bool,
 }
@@ -74,11 +76,14 @@ impl Counts {
             }
             self.calls += 1;
         }
-        if let Some(why) = call.also_wrong(&expected) {
+        if let Some(why) = call.also_wrong(&case.inputs, &expected) {
             return fail(why, None, watch);
         }
         self.cases += 1;
         *self.numbers.entry(expected.returned[0]).or_default() += 1;
+        for number in call.within(&case.inputs, &expected) {
+            *self.within.entry(number).or_default() += 1;
+        }
     }
 
     /// What is missing from a set of this size, if something is: cases, or a number in the full
@@ -89,10 +94,14 @@ impl Counts {
         if self.cases < fewest {
             return Some(format!("{} cases, and {fewest} are the fewest", self.cases));
         }
-        let never = shape.numbers.iter().find(|number| !self.numbers.contains_key(number));
-        never
-            .filter(|_| size == Size::Full)
-            .map(|number| format!("number {number} never came: add cases for it"))
+        if size == Size::Small {
+            return None;
+        }
+        if let Some(never) = shape.numbers.iter().find(|n| !self.numbers.contains_key(n)) {
+            return Some(format!("number {never} never came: add cases for it"));
+        }
+        let never = shape.within.iter().find(|number| !self.within.contains_key(number));
+        never.map(|n| format!("number {n} never came within what is written: add cases for it"))
     }
 }
 

@@ -9,14 +9,20 @@
 //! and `report` (the 53 bytes that the library's audit writes). They differ where a file is larger
 //! than the program's buffer.
 //!
+//! FOLDER/samples/district, for the district of the repository's folder samples, and
+//! FOLDER/districts/NAME, for more: `roster`, the submissions `1`, `2` and so on in their order,
+//! `expected` (the lines that `hirelog district` prints) and `report` (the bytes that the library's
+//! run writes). FOLDER/districts/nine has nine large submissions.
+//!
 //! FOLDER/samples: `key`, `message` and `signature`, a good one, for the signature check.
 
 use auditor::audit::findings;
 use auditor::cases::empty;
-use auditor::program;
+use auditor::depot::samples::List;
 use auditor::samples::{cluster, large_keys, more_pairs, samples, submissions, Pair};
 use auditor::signer::Signer;
 use auditor::verdicts::Verdicts;
+use auditor::{depot, program};
 use std::path::{Path, PathBuf};
 use std::{env, fs, process::exit};
 
@@ -54,6 +60,16 @@ fn main() {
         }
     }
 
+    let parts = [
+        ("samples", vec![depot::samples::sample(&cluster)]),
+        ("districts", depot::samples::more(&cluster, &keys)),
+    ];
+    for (part, lists) in parts {
+        for list in lists {
+            write_list(&made(folder.join(part).join(list.folder)), &list, &mut verdicts);
+        }
+    }
+
     let checked = made(folder.join("samples"));
     let message = b"Replica 1 of the samples signed these words.\n";
     write(&checked, "key", &roster[18..18 + 56]);
@@ -70,6 +86,19 @@ fn write_pair(folder: &Path, pair: &Pair, verdicts: &mut Verdicts) {
     write(folder, "first", first);
     write(folder, "second", second);
     write(folder, "expected", lines.as_bytes());
+    write(folder, "report", &report);
+}
+
+fn write_list(folder: &Path, list: &List, verdicts: &mut Verdicts) {
+    let (buffer, lengths) = (list.buffer(), list.lengths());
+    let enough = depot::report_size(lengths.len());
+    let found = depot::findings(&list.roster, &buffer, &lengths, enough, verdicts);
+    let report = found.as_ref().map_or(Vec::new(), depot::Findings::bytes);
+    write(folder, "roster", &list.roster);
+    for (i, submission) in list.submissions.iter().enumerate() {
+        write(folder, &(i + 1).to_string(), submission);
+    }
+    write(folder, "expected", depot::lines(&found).as_bytes());
     write(folder, "report", &report);
 }
 

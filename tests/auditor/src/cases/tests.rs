@@ -12,7 +12,7 @@ use std::collections::HashMap;
 /// Why the good signatures of an accepted case are not one leaf for each message of a replica, and
 /// one signature for each message, if they are not. Each signature has its replica, its message and
 /// its bytes.
-fn leaves_shared(signatures: &[(u16, Vec<u8>, Vec<u8>)]) -> Option<String> {
+pub fn leaves_shared(signatures: &[(u16, Vec<u8>, Vec<u8>)]) -> Option<String> {
     let (mut by_leaf, mut by_message) = (HashMap::new(), HashMap::new());
     for (replica, message, signature) in signatures {
         let leaf = u32_at(signature, 0);

@@ -1,5 +1,5 @@
-//! The premises of fairness (demand 3), asked of a replica's list of acts and of two submissions
-//! in document 01's words.
+//! The premises of fairness (demand 3), asked of a replica's list of acts and of submissions, two or
+//! more, in document 01's words.
 
 use super::replica::{Act, Replica};
 use crate::bytes::u32_at;
@@ -50,17 +50,17 @@ impl Past {
         statement.map(|statement| self.signed.of(statement)).is_some()
     }
 
-    /// How many signatures of the two submissions are good under the replica's key; nothing if one
-    /// of them stands on a statement that was not signed in the list, or not with that leaf.
+    /// How many signatures of the submissions are good under the replica's key; nothing if one of
+    /// them stands on a statement that was not signed in the list, or not with that leaf.
     pub fn own_signatures(
         &self,
         key: &[u8],
         name: &Name,
-        two: [&Submission; 2],
+        submissions: &[&Submission],
         verdicts: &mut Verdicts,
     ) -> Option<usize> {
         let mut own = 0;
-        for slot in two.iter().flat_map(|submission| submission.slots(name)) {
+        for slot in submissions.iter().flat_map(|submission| submission.slots(name)) {
             if verdicts.good(key, &slot.statement, slot.signature) {
                 if self.signed.known(&slot.statement) != Some(u32_at(slot.signature, 0)) {
                     return None;
@@ -71,11 +71,11 @@ impl Past {
         Some(own)
     }
 
-    /// Whether no two different chain strings of the logs held and of the two submissions have one
+    /// Whether no two different chain strings of the logs held and of the submissions have one
     /// SHA-256 value.
-    pub fn strings_apart(&self, two: [&Submission; 2]) -> bool {
+    pub fn strings_apart(&self, submissions: &[&Submission]) -> bool {
         let mut strings = HashMap::new();
-        let submitted = two.iter().map(|submission| &submission.records);
+        let submitted = submissions.iter().map(|submission| &submission.records);
         self.held.iter().chain(submitted).all(|log| {
             let pointers = pointers(log);
             log.iter().enumerate().all(|(i, record)| {
@@ -116,11 +116,11 @@ mod tests {
         let roster = Roster::read(&cluster.roster()).expect("a roster");
         let (past, submission) = past_and_submission(&cluster, &roster);
         let (two, mut verdicts) = ([&submission, &submission], Verdicts::default());
-        let mut own = |k| past.own_signatures(roster.key(k), &roster.name, two, &mut verdicts);
+        let mut own = |k| past.own_signatures(roster.key(k), &roster.name, &two, &mut verdicts);
         // Its vote, stamp and receipt, in either; replica 2 signed nothing but the vote, with its
         // first leaf too, and replica 3 nothing but the receipt, which is not replica 1's first.
         assert_eq!([1, 2, 3].map(&mut own), [Some(6), Some(2), None]);
-        assert!(past.strings_apart(two));
+        assert!(past.strings_apart(&two));
     }
 
     /// The same statements in another order have other leaves; a restart changes nothing.
@@ -133,7 +133,7 @@ mod tests {
         let (vote, record) = (submission.leaders[0].vote, submission.records[0]);
         let mut own = |acts: &[Act]| {
             let past = Past::of(acts, 3, &roster.name).expect("the acts keep the rules");
-            past.own_signatures(roster.key(1), &roster.name, two, &mut verdicts)
+            past.own_signatures(roster.key(1), &roster.name, &two, &mut verdicts)
         };
         let begun = [Act::Vote(vote), Act::Restart, Act::Vote(vote), Act::Add(record)];
         let with = |more: [Act; 3]| [&begun[..], &more].concat();
@@ -149,7 +149,7 @@ mod tests {
         let (_, submission) = past_and_submission(&cluster, &roster);
         let past = Past::of(&[Act::Raise(1)], 3, &roster.name).expect("a raise is allowed");
         let (two, mut verdicts) = ([&submission, &submission], Verdicts::default());
-        assert_eq!(past.own_signatures(roster.key(1), &roster.name, two, &mut verdicts), None);
+        assert_eq!(past.own_signatures(roster.key(1), &roster.name, &two, &mut verdicts), None);
         assert!(Past::of(&[Act::Raise(2), Act::Raise(1)], 3, &roster.name).is_none());
         assert!(Past::of(&[Act::Raise(1), Act::Stamp], 3, &roster.name).is_none());
     }

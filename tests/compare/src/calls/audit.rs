@@ -14,6 +14,7 @@ static SHAPE: Shape = Shape {
     outputs: &[("report", REPORT_SIZE)],
     returns: &["number"],
     numbers: &[0, 1, 2, 3, 4, 5, 6, 7, 8, 9, 10, 11, 12, 13, 14, 15],
+    within: &[],
     fewest: (5000, 500),
     tool: Some("audit_tool"),
 };
@@ -68,7 +69,7 @@ impl Call for Audit {
     }
 
     /// The wrapper of rust/ reads in the report what is written there.
-    fn also_wrong(&self, answer: &Answer) -> Option<String> {
+    fn also_wrong(&self, _: &[&[u8]], answer: &Answer) -> Option<String> {
         let found = found(answer)?;
         let read = wrapped(answer.outputs()[0]);
         (read != found).then(|| format!("the wrapper reads {read:?}, and it is {found:?}"))

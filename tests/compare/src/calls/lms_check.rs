@@ -13,6 +13,7 @@ static SHAPE: Shape = Shape {
     outputs: &[],
     returns: &["number"],
     numbers: &[0, 15, 16],
+    within: &[],
     fewest: (20_000, 5000),
     tool: None,
 };

@@ -13,6 +13,7 @@ static SHAPE: Shape = Shape {
     outputs: &[("digest", 32)],
     returns: &["number"],
     numbers: &[0, 16],
+    within: &[],
     fewest: (2000, 200),
     tool: None,
 };

@@ -13,6 +13,7 @@ static SHAPE: Shape = Shape {
     outputs: &[("doubled", 4)],
     returns: &["number", "length"],
     numbers: &[0, 21],
+    within: &[0, 6],
     fewest: (4, 2),
     tool: None,
 };
@@ -87,7 +88,12 @@ impl Call for Doubles {
         vec![0, length as u64]
     }
 
-    fn also_wrong(&self, answer: &Answer) -> Option<String> {
+    /// How much was written.
+    fn within(&self, _: &[&[u8]], answer: &Answer) -> Vec<u64> {
+        vec![answer.returned[1]]
+    }
+
+    fn also_wrong(&self, _: &[&[u8]], answer: &Answer) -> Option<String> {
         (self.0 == Wrong::Also && answer.returned[0] == 21).then(|| "also wrong".into())
     }
 }
@@ -127,6 +133,7 @@ fn right_answers() {
     // The case of no bytes is run with NULL also.
     assert_eq!((counts.cases, counts.calls, told.begun), (5, 6, 5));
     assert_eq!(counts.numbers, BTreeMap::from([(0, 4), (21, 1)]));
+    assert_eq!(counts.within, BTreeMap::from([(0, 2), (2, 1), (4, 1), (6, 1)]));
     assert_eq!(counts.missing(&Doubles(Wrong::Nowhere), Size::Full), None);
 }
 
@@ -185,6 +192,9 @@ fn missing() {
     assert_eq!(counts.missing(&call, Size::Full), Some("3 cases, and 4 are the fewest".into()));
     counts.run_set(&call, (7, Size::Small), None, &mut Told::default());
     let never = Some("number 21 never came: add cases for it".into());
+    assert_eq!(counts.missing(&call, Size::Full), never);
+    counts.numbers.insert(21, 1);
+    let never = Some("number 6 never came within what is written: add cases for it".into());
     assert_eq!(counts.missing(&call, Size::Full), never);
     let mut counts = Counts::default();
     counts.run_set(&call, (7, Size::Full), Some(Instant::now()), &mut Told::default());
