@@ -1,11 +1,11 @@
 -- Demand 3 on the bytes of a district's report. Two accepted submissions that differ are a pair, one way or the other, whose audit names
 -- somebody, and the union has whom it names. A replica that keeps the rules has no charge in any pair.
 -- Assumes nothing.
-use mathlib.Core.Path.{_≡_, refl, sym, ap, subst, _∙_}
-use mathlib.Core.Bool.{true, false}
-use mathlib.Core.List.{List, [], _∷_, _++_, map, flatMap, append-assoc, List·Memᴰ, Memᴰ·cast, Memᴰ·map}
+use mathlib.Core.Path.{_≡_, sym, ap, subst, _∙_}
+use mathlib.Core.Bool.{false}
+use mathlib.Core.List.{List, _++_, map, append-assoc, List·Memᴰ, Memᴰ·map}
 use mathlib.Core.Logic.{⊎-elim}
-use Prim.Native.Nat.{ℕ, suc, _≤_, _<_}
+use Prim.Native.Nat.{ℕ, _≤_, _<_}
 use native.Mathlib.Nat.{lt-of-lt-of-le}
 use native.Mathlib.Omega.{arith}
 use borrow.Author.Tests.{eq-eqb}
@@ -33,7 +33,7 @@ use Rattle.report.specs.Claims.{Differ, Fair}
 use Rattle.report.proofs.Fairness.{rows-fair}
 use Rattle.district_parts.specs.Parts.{parts}
 use Rattle.district_parts.proofs.Parts.{parts-length}
-use Rattle.district.specs.District.{Entry, entry, accepted, Pair, pair, pairs, found, union, firstFork, shown, districtNumber, numberBytes, tailBytes, districtBytes, districtAfter, namedAmong}
+use Rattle.district.specs.District.{Entry, accepted, Pair, pair, pairs, found, union, firstFork, shown, districtNumber, numberBytes, tailBytes, districtBytes, districtAfter, namedAmong}
 use Rattle.district.specs.Claims.{DistrictNaming, DistrictFairness}
 use Rattle.district.proofs.Judged.{numbers-length}
 use Rattle.district.proofs.Pairs.{paired, pair-of, member-entry, entry-member, part-bytes}

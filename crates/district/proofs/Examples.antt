@@ -2,10 +2,10 @@
 -- Assumes nothing.
 use mathlib.Core.Path.{_≡_, refl, ap}
 use mathlib.Core.Bool.{Bool, cond}
-use mathlib.Core.List.{List, [], _∷_, _++_, map, flatMap}
+use mathlib.Core.List.{List, [], _∷_, _++_, flatMap}
 use Prim.Native.Nat.{ℕ}
 use borrow.Author.Tests.{eq-eqb, ne-eqb}
-use lib.ListN.{replicate, drop}
+use lib.ListN.{replicate}
 use Rattle.words.specs.BigEndian.{number, be, numberAt, same}
 use Rattle.words.specs.Over.{over}
 use Rattle.refusal.specs.Checks.{all, every, check, refusal, first}

@@ -1,12 +1,9 @@
 -- The roster first, then the lengths' count and sum, then the report; only after them is anything written.
 -- Assumes nothing.
-use mathlib.Core.Path.{_≡_, sym, _∙_}
-use mathlib.Core.Bool.{true}
+use mathlib.Core.Path.{sym, _∙_}
 use native.Mathlib.Omega.{arith}
 use borrow.Author.Needs.{needs}
 use Rattle.refusal.proofs.Laws.{met, unmet}
-use Rattle.roster.specs.Roster.{rosterNumber}
-use Rattle.district_parts.specs.Parts.{counted, addsUp}
 use Rattle.district_parts.proofs.Parts.{counted-most}
 use Rattle.audit_district.proofs.Run.{unwritten, written, roster-first, number-17, number-18, number-1, number-0}
 use Rattle.audit_district.proofs.audit.Statement.{statement}

@@ -1,7 +1,7 @@
 -- One submission after the other: what has been judged is the first i, and where the next begins is what their lengths add up to.
 -- Assumes nothing.
 use mathlib.Core.Path.{_≡_, refl, sym, ap, _∙_}
-use mathlib.Core.List.{List, [], map, flatMap, List·Memᴰ, List·Memᴰ·not-nil}
+use mathlib.Core.List.{map, flatMap, List·Memᴰ, List·Memᴰ·not-nil}
 use Prim.Native.Nat.{ℕ, suc, _+_, _-_, _≤_, _<_}
 use native.Mathlib.Omega.{arith}
 use borrow.Author.Needs.{needs}
@@ -14,7 +14,7 @@ use Rattle.district_parts.specs.Parts.{parts, sum, countMost}
 use Rattle.district_parts.proofs.Parts.{parts-length, sum-next, counted-most}
 use Rattle.district.specs.District.{acceptedFrom, accepted, numberBytes}
 use Rattle.district_pairs.specs.declared.Part.{Part}
-use Rattle.district_pairs.specs.Entries.{entryOf, partsOf, entriesOf, Fit, Room, Held}
+use Rattle.district_pairs.specs.Entries.{entryOf, partsOf, entriesOf, Fit, Room}
 use Rattle.district_pairs.proofs.Walk.{from-to}
 use Rattle.audit_district.proofs.Judged.{this, room-of, number-put, entries-next, fits-next}
 use Rattle.audit_district.proofs.judge.Statement.{statement}

@@ -1,6 +1,6 @@
 -- The numbers while judging, and behind them what the pairs of the accepted submissions show.
 -- Assumes nothing.
-use mathlib.Core.Path.{_≡_, ap, _∙_}
+use mathlib.Core.Path.{ap, _∙_}
 use native.Mathlib.Omega.{arith}
 use borrow.Author.Needs.{needs}
 use Rattle.district.specs.District.{pairs, shown}

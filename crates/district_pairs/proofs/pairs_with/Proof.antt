@@ -1,14 +1,14 @@
 -- From the last submission down to the one after i: what the pairs with those from `j` on show, before the pairs of the later ones.
 -- Assumes nothing.
-use mathlib.Core.Path.{_≡_, sym, ap, _∙_}
-use Prim.Native.Nat.{ℕ, suc, _+_, _-_, _≤_, _<_}
+use mathlib.Core.Path.{_≡_, ap, _∙_}
+use Prim.Native.Nat.{suc, _-_, _≤_, _<_}
 use native.Mathlib.Nat.{le-refl}
 use native.Mathlib.Omega.{arith}
 use borrow.Author.Needs.{needs}
-use lib.ListN.{length, getD}
+use lib.ListN.{length}
 use Rattle.district.specs.District.{entry}
 use Rattle.district_pairs.specs.declared.Entries.{Entries}
-use Rattle.district_pairs.specs.Entries.{entryOf, Held}
+use Rattle.district_pairs.specs.Entries.{entryOf}
 use Rattle.district_pairs.proofs.Walk.{part-at, with-one, with-none, with-turn, with-all}
 use Rattle.district_pairs.proofs.pairs_with.Statement.{statement}
 use Rattle.district_pairs.proofs.pairs_with.Tie as tie
