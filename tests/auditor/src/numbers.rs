@@ -20,6 +20,8 @@ pub const LEADER: u8 = 13;
 pub const COMMIT_INDEX: u8 = 14;
 pub const SIGNATURE: u8 = 15;
 pub const LONG_MESSAGE: u8 = 16;
+pub const LENGTH_COUNT: u8 = 17;
+pub const LENGTH_SUM: u8 = 18;
 
 pub const TWO_VOTES: u8 = 1;
 pub const TWO_STAMPS: u8 = 2;
@@ -48,6 +50,8 @@ pub const NUMBERS: &[Row] = &[
     (COMMIT_INDEX, "submission", "commit index"),
     (SIGNATURE, "submission", "signature"),
     (LONG_MESSAGE, "message", "long message"),
+    (LENGTH_COUNT, "lengths", "length count"),
+    (LENGTH_SUM, "lengths", "length sum"),
 ];
 
 /// Every rule; the words are ours, for document 01 has none.
