@@ -9,7 +9,7 @@ use std::os::unix::process::CommandExt;
 fn in_each_place(file: &Path) -> Vec<Vec<PathBuf>> {
     let [roster, first, second] = sample("one_leader");
     let mut runs = vec![vec!["sha256".into(), file.into()]];
-    for name in ["audit", "check"] {
+    for name in ["audit", "district", "check"] {
         for place in 1..=3 {
             let mut arguments = vec![name.into(), roster.clone(), first.clone(), second.clone()];
             arguments[place] = file.into();
@@ -86,7 +86,7 @@ fn incomplete_folder() {
 fn once() {
     let folder = Folder::new("once");
     let none = folder.0.join("none");
-    for name in ["audit", "check"] {
+    for name in ["audit", "district", "check"] {
         let run = with_options(name, &[], &[&none, &none, &none]);
         run.fails(74, &["there is no file"]);
         assert_eq!(run.err.lines().count(), 1, "{run:?}");
