@@ -134,10 +134,23 @@ fn forbidden() {
     let locked = folder.0.join("locked");
     fs::create_dir(&locked).expect("a folder");
     fs::set_permissions(&locked, fs::Permissions::from_mode(0o600)).expect("permissions");
+    // Its files can be read, but not listed, and a district's run has to know how many there are.
+    let unlisted = folder.0.join("unlisted");
+    fs::create_dir(&unlisted).expect("a folder");
+    for (name, file) in ["roster", "1", "2"].iter().zip(sample("one_leader")) {
+        fs::copy(file, unlisted.join(name)).expect("copied");
+    }
+    let mode = if is_root { 0o711 } else { 0o100 };
+    fs::set_permissions(&unlisted, fs::Permissions::from_mode(mode)).expect("permissions");
+    let told_of_unlisted = format!("the folder {} may not be read (permission", quoted(&unlisted));
     let told_of_file = format!("{} may not be read (permission denied): ask", quoted(&file));
     let told_of_folder = format!("the folder {} may not be read (permission", quoted(&locked));
     let runs = in_each_place(&file).into_iter().map(|arguments| (arguments, &told_of_file));
-    for (arguments, told) in runs.chain([(vec!["audit".into(), locked], &told_of_folder)]) {
+    let folders = [("audit", &locked, &told_of_folder), ("district", &locked, &told_of_folder)]
+        .into_iter()
+        .chain([("district", &unlisted, &told_of_unlisted)])
+        .map(|(name, folder, told)| (vec![name.into(), folder.clone()], told));
+    for (arguments, told) in runs.chain(folders) {
         let mut run = command(&arguments);
         if is_root {
             run.uid(65534).gid(65534);

@@ -7,6 +7,7 @@ use crate::usage::{written, wrong_count, Command};
 use crate::{hints, json};
 use hirelog::numbers::Number;
 use hirelog::{District, DistrictRefused, Refusal, DISTRICT_MAX, SUBMISSION_MAX};
+use std::io;
 use std::path::{Path, PathBuf};
 
 pub const COMMAND: Command = Command {
@@ -93,7 +94,8 @@ fn numbered(folder: &Path) -> Result<Vec<PathBuf>, Failure> {
         failure
     })?;
     let failure = |message: String| Failure { status: Status::Unreadable, messages: vec![message] };
-    let entries = folder.read_dir().map_err(|error| failure(unreadable(folder, &error)))?;
+    let told = |error: io::Error| failure(format!("the folder {}", unreadable(folder, &error)));
+    let entries = folder.read_dir().map_err(told)?;
     let mut numbers: Vec<usize> =
         entries.filter_map(|entry| submission_number(entry.ok()?.file_name().to_str()?)).collect();
     numbers.sort_unstable();
