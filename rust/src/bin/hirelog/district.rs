@@ -351,6 +351,25 @@ fn members(files: &Files, number: u32, found: Option<&District>) -> Vec<(&'stati
 mod tests {
     use super::*;
 
+    /// A board that is named without a fork: all pairs of accepted submissions are to be audited, by
+    /// a command line that can be typed.
+    #[test]
+    fn named_without_a_fork() {
+        let paths = ["r", "-a", "x", "b c", "d"].map(PathBuf::from).to_vec();
+        let files = Files { paths, read: Vec::new() };
+        let refusals = vec![None, Some(Refusal::Size), None, None];
+        let mut found = District { refusals, named: vec![2], fork: None };
+        let remark = board_remark("board 2", 2, &files, &found);
+        let told = "For the rule that it broke, and the term, audit every two of the accepted \
+            submissions 1, 3 and 4, beginning with `hirelog audit -- r -a \"b c\"`.";
+        assert!(remark.advice.ends_with(told), "{}", remark.advice);
+        assert!(fork_remark("fork 0 0", &files, &found).advice.ends_with("Nothing."));
+        found.refusals[0] = Some(Refusal::Size);
+        let remark = board_remark("board 2", 2, &files, &found);
+        let told = "the term, audit the two: `hirelog audit r \"b c\" d`.";
+        assert!(remark.advice.ends_with(told), "{}", remark.advice);
+    }
+
     /// The names that are submissions of a folder, and those that are not.
     #[test]
     fn names_of_submissions() {
