@@ -24,10 +24,16 @@ extern "C" {
 /* The bytes of an audit's report. */
 #define HIRELOG_REPORT_SIZE 53
 
+/* The most submissions of a district's run. */
+#define HIRELOG_DISTRICT_MAX 9
+
+/* The bytes of the longest report of a district's run: a buffer of so many always does. */
+#define HIRELOG_DISTRICT_REPORT_MAX 13
+
 /*
  * The numbers that a function returns. docs/C.md says what each means and what to do about it, in
- * the words of document 01 (What stops an audit). docs/NUMBERS.md has the list that these and the
- * rules below are held to.
+ * the words of document 01 (What stops an audit); 17 and 18 are document 02's (W1), in our words.
+ * docs/NUMBERS.md has the list that these and the rules below are held to.
  */
 #define HIRELOG_OK 0
 #define HIRELOG_SHORT_REPORT 1
@@ -46,6 +52,8 @@ extern "C" {
 #define HIRELOG_COMMIT_INDEX 14
 #define HIRELOG_BAD_SIGNATURE 15
 #define HIRELOG_LONG_MESSAGE 16
+#define HIRELOG_LENGTH_COUNT 17
+#define HIRELOG_LENGTH_SUM 18
 
 /* The rules, as a report's row has them; hirelog_audit below says what each is. */
 #define HIRELOG_RULE_TWO_VOTES 1
@@ -153,6 +161,52 @@ uint32_t hirelog_lms_check(const uint8_t *key, size_t key_len, const uint8_t *me
 uint32_t hirelog_audit(const uint8_t *roster, size_t roster_len, const uint8_t *first,
                        size_t first_len, const uint8_t *second, size_t second_len,
                        uint8_t *report, size_t report_len);
+
+/*
+ * A district's run (document 02, W1): judges each of 2 to 9 submissions by itself, and audits every
+ * two of those that are accepted. The submissions stand end to end at buffer, and lengths[i - 1] is
+ * the number of bytes of submission i, from 1.
+ *
+ * Returns HIRELOG_OK if the run is made, else the first of these that applies, in this order:
+ *   2 to 4                for the roster, as in hirelog_audit;
+ *   HIRELOG_LENGTH_COUNT  if count is below 2 or above HIRELOG_DISTRICT_MAX;
+ *   HIRELOG_LENGTH_SUM    if the lengths do not add up to buffer_len: as whole numbers, nothing
+ *                         wraps;
+ *   HIRELOG_SHORT_REPORT  if report_len is below count + 4.
+ * No other number is returned. A submission that is refused has its number in the report alone.
+ *
+ * With any number but HIRELOG_OK nothing is written, which is not so in hirelog_audit. With
+ * HIRELOG_OK the first count + 4 bytes at report are written, and the others are left as they were:
+ *   bytes 0 to count - 1          byte i - 1 is the number of submission i by itself: HIRELOG_OK if
+ *                                 it is accepted, else the first of 5 to 15 that applies
+ *                                 (HIRELOG_SIZE where its length is 0);
+ *   bytes count to count + 1      the replicas named, big-endian: bit k - 1, counted from the
+ *                                 lowest, is replica k. It is named if hirelog_audit names it for
+ *                                 any two accepted submissions, the one of lower position first;
+ *   bytes count + 2 to count + 3  the first two accepted submissions that fork, by the lower
+ *                                 position, then by the higher: their positions, a byte each,
+ *                                 counted from 1 over all lengths; 0 and 0 if none do.
+ * A submission that is refused is left out of the pairs, and keeps its position. A replica can be
+ * named without a fork. Which rule it broke, in which term, and the fork index are not told here:
+ * hirelog_audit of two submissions tells them.
+ *
+ * Each submission is judged once, its signatures with it, in however many pairs it is.
+ *
+ * The caller sees to it that
+ *   - roster points to roster_len readable bytes, buffer to buffer_len, lengths to count readable
+ *     numbers, in the machine's own byte order, and report to report_len writable bytes; each of
+ *     the four may be NULL where its length or count is 0;
+ *   - lengths is aligned as a uint32_t has to be; no other pointer has to be aligned;
+ *   - the report overlaps none of the other three, which may overlap each other;
+ *   - no other thread writes any of the four, or reads the report, during the call.
+ *
+ * The roster, the submissions and the lengths are never changed, nothing outside the four is read,
+ * and no byte but the report's first count + 4 is written. No state is kept from one call to the
+ * next, so several threads may call this at the same time, each with a report of its own.
+ */
+uint32_t hirelog_district(const uint8_t *roster, size_t roster_len, const uint8_t *buffer,
+                          size_t buffer_len, const uint32_t *lengths, size_t count,
+                          uint8_t *report, size_t report_len);
 
 #ifdef __cplusplus
 }

@@ -1,5 +1,6 @@
-//! The numbers of document 01 (What stops an audit), in one table: what each is called, what it
-//! means, and what to do about it. docs/C.md has the same for callers in C.
+//! The numbers of document 01 (What stops an audit) and of document 02 (W1: 17 and 18), in one table:
+//! what each is called, what it means, and what to do about it. docs/C.md has the same for callers
+//! in C.
 
 /// A number that a service answers.
 #[derive(Clone, Copy, Debug, PartialEq, Eq)]
@@ -7,7 +8,7 @@ pub struct Number {
     pub number: u32,
     /// Its name in include/hirelog.h.
     pub name: &'static str,
-    /// Document 01's word, as its table has it.
+    /// Document 01's word, as its table has it; those of 17 and 18 are ours.
     pub word: &'static str,
     pub meaning: &'static str,
     pub advice: &'static str,
@@ -43,8 +44,9 @@ pub const NUMBERS: &[Number] = &[
         number: 1,
         name: "HIRELOG_SHORT_REPORT",
         word: "short report",
-        meaning: "The buffer for the report has fewer than 53 bytes, and nothing was written.",
-        advice: "Only a program that calls the library can get this: it has to lend 53 bytes.",
+        meaning: "The buffer for the report is too short (53 bytes for an audit, and for a \
+            district's run 4 more than there are submissions), and nothing was written.",
+        advice: "Only a program that calls the library can get this: it has to lend as many bytes.",
     },
     Number {
         number: 2,
@@ -91,7 +93,7 @@ pub const NUMBERS: &[Number] = &[
         meaning:
             "The submission is of another district than the roster, or a byte of the name was \
             damaged.",
-        advice: "Take the roster and both submissions from one district. If they are, copy them \
+        advice: "Take the roster and all submissions from one district. If they are, copy them \
             again from where they came.",
     },
     Number {
@@ -162,16 +164,32 @@ pub const NUMBERS: &[Number] = &[
             one.",
         advice: "See that it is the file that you meant.",
     },
+    Number {
+        number: 17,
+        name: "HIRELOG_LENGTH_COUNT",
+        word: "length count",
+        meaning: "A district's run takes two to nine submissions, and there were fewer or more.",
+        advice: "Give at least two submissions beside the roster, and at most nine. More than \
+            nine take several runs, and only two that are given in one run are compared.",
+    },
+    Number {
+        number: 18,
+        name: "HIRELOG_LENGTH_SUM",
+        word: "length sum",
+        meaning: "The lengths of the submissions do not add up to the buffer that they stand in.",
+        advice: "Only a program that calls the library can get this: it has to lend the length \
+            of each submission, in bytes, and the buffer with the length of all together.",
+    },
 ];
 
 #[cfg(test)]
 mod tests {
     use super::*;
 
-    /// Each number from 0 to 16 has a row, at its place, with its texts; names and words differ.
+    /// Each number from 0 to 18 has a row, at its place, with its texts; names and words differ.
     #[test]
     fn rows() {
-        assert_eq!(NUMBERS.len(), 17);
+        assert_eq!(NUMBERS.len(), 19);
         for (number, row) in (0..).zip(NUMBERS) {
             assert_eq!(row.number, number);
             assert_eq!(Number::of(number), Some(row));
@@ -183,6 +201,6 @@ mod tests {
             let alike = |other: &&Number| other.name == row.name || other.word == row.word;
             assert_eq!(NUMBERS.iter().filter(alike).count(), 1, "{number}");
         }
-        assert_eq!(Number::of(17), None);
+        assert_eq!(Number::of(19), None);
     }
 }

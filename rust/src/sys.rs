@@ -4,6 +4,8 @@
 pub const OK: u32 = 0;
 pub const SHORT_REPORT: u32 = 1;
 pub const LONG_MESSAGE: u32 = 16;
+pub const LENGTH_COUNT: u32 = 17;
+pub const LENGTH_SUM: u32 = 18;
 
 /// What a `Charge` has as its rule.
 pub const RULE_TWO_VOTES: u8 = 1;
@@ -31,6 +33,17 @@ extern "C" {
         first_len: usize,
         second: *const u8,
         second_len: usize,
+        report: *mut u8,
+        report_len: usize,
+    ) -> u32;
+
+    pub fn hirelog_district(
+        roster: *const u8,
+        roster_len: usize,
+        buffer: *const u8,
+        buffer_len: usize,
+        lengths: *const u32,
+        count: usize,
         report: *mut u8,
         report_len: usize,
     ) -> u32;

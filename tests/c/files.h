@@ -1,4 +1,4 @@
-/* Whole files, for the bench tool and the audit's benchmark. */
+/* Whole files, for the bench tools and the audit's benchmark. */
 #ifndef FILES_H
 #define FILES_H
 

@@ -9,7 +9,7 @@ use std::os::unix::process::CommandExt;
 fn in_each_place(file: &Path) -> Vec<Vec<PathBuf>> {
     let [roster, first, second] = sample("one_leader");
     let mut runs = vec![vec!["sha256".into(), file.into()]];
-    for name in ["audit", "check"] {
+    for name in ["audit", "district", "check"] {
         for place in 1..=3 {
             let mut arguments = vec![name.into(), roster.clone(), first.clone(), second.clone()];
             arguments[place] = file.into();
@@ -86,7 +86,7 @@ fn incomplete_folder() {
 fn once() {
     let folder = Folder::new("once");
     let none = folder.0.join("none");
-    for name in ["audit", "check"] {
+    for name in ["audit", "district", "check"] {
         let run = with_options(name, &[], &[&none, &none, &none]);
         run.fails(74, &["there is no file"]);
         assert_eq!(run.err.lines().count(), 1, "{run:?}");
@@ -134,10 +134,23 @@ fn forbidden() {
     let locked = folder.0.join("locked");
     fs::create_dir(&locked).expect("a folder");
     fs::set_permissions(&locked, fs::Permissions::from_mode(0o600)).expect("permissions");
+    // Its files can be read, but not listed, and a district's run has to know how many there are.
+    let unlisted = folder.0.join("unlisted");
+    fs::create_dir(&unlisted).expect("a folder");
+    for (name, file) in ["roster", "1", "2"].iter().zip(sample("one_leader")) {
+        fs::copy(file, unlisted.join(name)).expect("copied");
+    }
+    let mode = if is_root { 0o711 } else { 0o100 };
+    fs::set_permissions(&unlisted, fs::Permissions::from_mode(mode)).expect("permissions");
+    let told_of_unlisted = format!("the folder {} may not be read (permission", quoted(&unlisted));
     let told_of_file = format!("{} may not be read (permission denied): ask", quoted(&file));
     let told_of_folder = format!("the folder {} may not be read (permission", quoted(&locked));
     let runs = in_each_place(&file).into_iter().map(|arguments| (arguments, &told_of_file));
-    for (arguments, told) in runs.chain([(vec!["audit".into(), locked], &told_of_folder)]) {
+    let folders = [("audit", &locked, &told_of_folder), ("district", &locked, &told_of_folder)]
+        .into_iter()
+        .chain([("district", &unlisted, &told_of_unlisted)])
+        .map(|(name, folder, told)| (vec![name.into(), folder.clone()], told));
+    for (arguments, told) in runs.chain(folders) {
         let mut run = command(&arguments);
         if is_root {
             run.uid(65534).gid(65534);

@@ -4,6 +4,7 @@
 mod audit;
 mod check;
 mod digest;
+mod district;
 mod files;
 mod json;
 mod usage;
@@ -47,13 +48,21 @@ impl Run {
     /// With --explain the messages are the first of this plain run's, without the meaning; and none
     /// where nothing was refused. The plain run's last says what to do about a refusal.
     fn shortens(&self, plain: &Run) {
-        if plain.status != 2 {
-            assert!(self.err.is_empty() && !plain.err.contains("--explain"), "{self:?} {plain:?}");
+        self.shortens_each(plain, usize::from(plain.status == 2));
+    }
+
+    /// The same where so many were refused, whatever the status.
+    fn shortens_each(&self, plain: &Run, refused: usize) {
+        assert_eq!(self.err.lines().count(), refused, "{self:?} {plain:?}");
+        if refused == 0 {
+            assert!(!plain.err.contains("--explain"), "{plain:?}");
             return;
         }
-        let short = self.err.strip_suffix('\n').expect("a line");
-        assert!(!short.contains('\n') && plain.err.starts_with(short), "{self:?} {plain:?}");
-        assert!(short.contains(": number ") && short.ends_with(char::is_alphabetic), "{self:?}");
+        for (short, long) in self.err.lines().zip(plain.err.lines()) {
+            assert!(long.starts_with(short), "{self:?} {plain:?}");
+            assert!(short.contains(": number "), "{self:?}");
+            assert!(short.ends_with(char::is_alphabetic), "{self:?}");
+        }
         assert!(plain.err.ends_with("\nhirelog: for what to do: add --explain\n"), "{plain:?}");
     }
 

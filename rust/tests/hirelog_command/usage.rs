@@ -4,16 +4,19 @@ use crate::*;
 
 #[test]
 fn wrong_uses() {
-    let uses: [(&[&str], &str); 22] = [
-        (&[], "name a command: audit, check, sha256"),
-        (&["adit", "x"], "there is no command \"adit\", but audit, check, sha256"),
+    let uses: [(&[&str], &str); 24] = [
+        (&[], "name a command: audit, district, check, sha256"),
+        (&["adit", "x"], "there is no command \"adit\", but audit, district, check, sha256"),
         (&[""], "there is no command \"\""),
         (&["--explain", "audit", "x"], "stand after the command: hirelog audit --explain x\n"),
         (&["--json", "--", "check", "x y", "-"], ": hirelog check --json -- \"x y\" -\n"),
-        (&["--explain"], "options stand after the command: name one first: audit, check, sha256"),
+        (
+            &["--explain"],
+            "options stand after the command: name one first: audit, district, check, sha256",
+        ),
         (&["--explain", "x"], "options stand after the command: name one first"),
         (&["--loud", "audit", "x"], "there is no option \"--loud\""),
-        (&["help", "adit"], "there is no command \"adit\", but audit, check, sha256"),
+        (&["help", "adit"], "there is no command \"adit\", but audit, district, check, sha256"),
         (&["audit", "-"], "standard input is not read, but /dev/stdin can be named"),
         (&["check", "a", "-", "b"], "standard input is not read, but /dev/stdin can be named"),
         (&["sha256", "-"], "standard input is not read, but /dev/stdin can be named"),
@@ -25,6 +28,8 @@ fn wrong_uses() {
         (&["audit", "a", "", "c"], "a file's name is empty"),
         (&["check", "a"], "hirelog check takes KEY MESSAGE SIGNATURE, and 1 name was given\n"),
         (&["check", "--json", "a", "b", "c", "d"], "and 4 names were given"),
+        (&["district"], "hirelog district takes FOLDER or ROSTER FILE.., and 0 names were given"),
+        (&["district", "a", "b", "-x"], "there is no option \"-x\""),
         (&["sha256"], "hirelog sha256 takes FILE, and 0 names were given"),
         (&["sha256", "a", "b"], "and 2 names were given"),
     ];
@@ -76,14 +81,17 @@ fn help() {
     let audit = ["hirelog audit [--explain] [--json] FOLDER", "[--json] ROSTER FIRST SECOND"];
     let check = ["hirelog check [--explain] [--json] KEY MESSAGE SIGNATURE", "good", "bad"];
     let digest = ["hirelog sha256 [--explain] [--json] FILE"];
-    let all = [&audit[..], &check[..1], &digest].concat();
-    let helps: [(&[&str], &[&str], &[u8]); 9] = [
+    let district = ["hirelog district [--explain] [--json] FOLDER", "[--json] ROSTER FILE.."];
+    let all = [&audit[..], &district, &check[..1], &digest].concat();
+    let helps: [(&[&str], &[&str], &[u8]); 11] = [
         (&["--help"], &all, &[0, 1, 2]),
         (&["-h"], &all, &[0, 1, 2]),
         (&["help"], &all, &[0, 1, 2]),
         (&["help", "audit"], &audit, &[0, 1, 2]),
         (&["help", "sha256"], &digest, &[0, 2]),
         (&["audit", "--help"], &audit, &[0, 1, 2]),
+        (&["help", "district"], &district, &[0, 1, 2]),
+        (&["district", "a", "--help"], &district, &[0, 1, 2]),
         (&["check", "--help"], &check, &[0, 2]),
         (&["sha256", "--help"], &digest, &[0, 2]),
         (&["audit", "a", "b", "-h"], &audit, &[0, 1, 2]),

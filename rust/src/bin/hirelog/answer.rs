@@ -9,7 +9,7 @@ pub enum Status {
     NothingFound = 0,
     /// Number 0, and a replica named.
     Named = 1,
-    /// Any other number.
+    /// Any other number; of a district's run also that of a submission, with no replica named.
     Refused = 2,
     Usage = 64,
     /// A file that cannot be read, or an answer that cannot be written.
@@ -46,7 +46,8 @@ pub struct Answer {
     /// The same as members of a JSON object, each value as JSON.
     pub members: Vec<(&'static str, String)>,
     pub remarks: Vec<Remark>,
-    pub refused: Option<RefusedFile>,
+    /// Each file that was refused, or the run as a whole.
+    pub refused: Vec<RefusedFile>,
     /// What may have gone wrong with the files.
     pub hints: Vec<String>,
 }
@@ -87,15 +88,14 @@ impl Answer {
 
     /// What goes to stderr: with an explanation, which has all the rest, only what was refused.
     pub fn messages(&self, explain: bool) -> Vec<String> {
-        let Some(refused) = &self.refused else {
-            return if explain { Vec::new() } else { self.hints.clone() };
-        };
         if explain {
-            return vec![refused.told.clone()];
+            return self.refused.iter().map(|refused| refused.told.clone()).collect();
         }
-        let mut messages = vec![refused.whole()];
+        let mut messages: Vec<String> = self.refused.iter().map(RefusedFile::whole).collect();
         messages.extend(self.hints.iter().cloned());
-        messages.push("for what to do: add --explain".into());
+        if !self.refused.is_empty() {
+            messages.push("for what to do: add --explain".into());
+        }
         messages
     }
 }
@@ -130,12 +130,25 @@ impl Remark {
     }
 }
 
+/// The words of a text. A command line, which stands in backquotes, is one: it can be copied whole.
+fn words(text: &str) -> Vec<String> {
+    let (mut words, mut open) = (Vec::<String>::new(), false);
+    for part in text.split(' ') {
+        match words.last_mut() {
+            Some(command) if open => *command += &format!(" {part}"),
+            _ => words.push(part.into()),
+        }
+        open ^= part.matches('`').count() % 2 == 1;
+    }
+    words
+}
+
 /// The text in lines of at most `COLUMNS` characters (a longer word has its own), all but the first
 /// indented.
 fn fold(text: &str) -> String {
     let mut folded = String::new();
     let mut column = 0;
-    for word in text.split(' ') {
+    for word in words(text) {
         let width = word.chars().count();
         if column > 0 && column + 1 + width > COLUMNS {
             folded += "\n    ";
@@ -144,7 +157,7 @@ fn fold(text: &str) -> String {
             folded.push(' ');
             column += 1;
         }
-        folded += word;
+        folded += &word;
         column += width;
     }
     folded + "\n"
@@ -166,5 +179,15 @@ mod tests {
         }
         assert_eq!(folded.lines().next().map(str::len), Some(79));
         assert_eq!(fold(&["1234"; 17].join(" ")), ["1234"; 16].join(" ") + "\n    1234\n");
+    }
+
+    /// A command line is not parted, however long it is.
+    #[test]
+    fn command_lines() {
+        let command = format!("`hirelog audit {}`", ["a/long/name"; 8].join(" "));
+        let folded = fold(&format!("Do this: {command}. Then `that`, and no more."));
+        let expected = format!("Do this:\n    {command}.\n    Then `that`, and no more.\n");
+        assert_eq!(folded, expected);
+        assert_eq!(fold("a name with ` in it"), "a name with ` in it\n");
     }
 }

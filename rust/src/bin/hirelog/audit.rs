@@ -2,11 +2,11 @@
 
 use crate::answer::{Answer, Failure, RefusedFile, Remark, Status};
 use crate::files::{grouped, in_folder, read_all, Input};
-use crate::formats::{SUBMISSION_MAX, SUBMISSION_MIN};
+use crate::formats::SUBMISSION_MIN;
 use crate::usage::{wrong_count, Command};
-use crate::{hints, json};
+use crate::{district, hints, json};
 use hirelog::numbers::Number;
-use hirelog::{Findings, Place, Refusal, Refused};
+use hirelog::{Findings, Place, Refusal, Refused, SUBMISSION_MAX};
 use std::path::PathBuf;
 
 pub const COMMAND: Command = Command {
@@ -39,7 +39,7 @@ the first is told.
 };
 
 /// The files of an audit, as the folder has them.
-const FILES: [&str; 3] = ["roster", "first", "second"];
+pub const FILES: [&str; 3] = ["roster", "first", "second"];
 
 /// What each of them is, for a sentence.
 const SUBJECTS: [&str; 3] = ["roster", "first submission", "second submission"];
@@ -51,7 +51,10 @@ const INSTEAD: &str = "name the three files (hirelog audit ROSTER FIRST SECOND)"
 /// its size: 2 for the roster, 5 for a submission.
 fn run(operands: &[PathBuf]) -> Result<Answer, Failure> {
     let paths = match operands {
-        [folder] => in_folder(folder, FILES, INSTEAD)?,
+        [folder] => in_folder(folder, FILES, INSTEAD).map_err(|mut failure| {
+            failure.messages.extend(hints::other_folder(folder, &district::FILES, "district"));
+            failure
+        })?,
         [roster, first, second] => [roster.clone(), first.clone(), second.clone()],
         _ => return Err(wrong_count(&COMMAND, operands.len())),
     };
@@ -85,8 +88,8 @@ fn accepted(files: &[Input; 3], found: &Findings) -> Answer {
         lines: joined(&lines),
         members: members(files, 0, Place::Roster, Some(found)),
         remarks,
-        refused: None,
-        hints: hints::same_bytes(&files[1], &files[2]).into_iter().collect(),
+        refused: Vec::new(),
+        hints: hints::same_bytes(&files[1..]),
     }
 }
 
@@ -119,13 +122,13 @@ fn refusal(files: &[Input; 3], refused: &Refused) -> Answer {
         lines: joined(&lines),
         members: members(files, number, place, None),
         remarks: vec![about_number, about_fork],
-        refused: Some(RefusedFile { told: format!("the {told}"), why }),
+        refused: vec![RefusedFile { told: format!("the {told}"), why }],
         hints: hints::refused_audit(files, refused),
     }
 }
 
 /// Which of the two limits of number 5 a submission does not keep.
-fn which_side(submission: &Input) -> String {
+pub fn which_side(submission: &Input) -> String {
     if submission.is_long() {
         format!(" This one has more than {}.", grouped(SUBMISSION_MAX))
     } else {
@@ -133,12 +136,13 @@ fn which_side(submission: &Input) -> String {
     }
 }
 
-fn joined(lines: &[String]) -> Vec<u8> {
+/// Lines as they are printed.
+pub fn joined(lines: &[String]) -> Vec<u8> {
     (lines.join("\n") + "\n").into_bytes()
 }
 
 /// What the table says of a number.
-fn number_remark(line: &str, number: u32) -> Remark {
+pub fn number_remark(line: &str, number: u32) -> Remark {
     let row = Number::of(number).expect("a row for each number");
     Remark { line: line.into(), meaning: row.meaning.into(), advice: row.advice.into() }
 }

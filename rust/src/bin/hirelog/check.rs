@@ -57,7 +57,7 @@ fn run(operands: &[PathBuf]) -> Result<Answer, Failure> {
             ("answer", json::string(line)),
             ("files", json::files(FILES, &files)),
         ],
-        refused: refused(verdict, &files, row),
+        refused: refused(verdict, &files, row).into_iter().collect(),
         hints: if verdict == Verdict::Bad { bad_hints(&files) } else { Vec::new() },
         remarks: vec![remark],
     })

@@ -57,13 +57,27 @@ impl Input {
 
 /// Reads all files; or says of each that cannot be read why not.
 pub fn read_all<const N: usize>(paths: [PathBuf; N], limit: usize) -> Result<[Input; N], Failure> {
-    let read = paths.map(|path| Input::read(path, limit));
-    let messages: Vec<String> =
-        read.iter().filter_map(|file| file.as_ref().err().cloned()).collect();
-    if !messages.is_empty() {
-        return Err(Failure { status: Status::Unreadable, messages });
+    let files = read_each(paths, limit)?;
+    Ok(files.try_into().unwrap_or_else(|_| unreachable!("as many files as paths")))
+}
+
+/// The same of any number of files.
+pub fn read_each(
+    paths: impl IntoIterator<Item = PathBuf>,
+    limit: usize,
+) -> Result<Vec<Input>, Failure> {
+    let (mut files, mut messages) = (Vec::new(), Vec::new());
+    for path in paths {
+        match Input::read(path, limit) {
+            Ok(file) => files.push(file),
+            Err(message) => messages.push(message),
+        }
     }
-    Ok(read.map(|file| file.expect("no message")))
+    if messages.is_empty() {
+        Ok(files)
+    } else {
+        Err(Failure { status: Status::Unreadable, messages })
+    }
 }
 
 /// The files of these names in a folder; or says that it is no folder, or has not all of them, and
@@ -117,7 +131,7 @@ fn lacking(folder: &Path, names: &[&str], instead: &str) -> Option<String> {
 /// Linux's error for a name that goes on after a file, as if that were a folder.
 const NOT_A_FOLDER: i32 = 20;
 
-fn unreadable(path: &Path, error: &io::Error) -> String {
+pub fn unreadable(path: &Path, error: &io::Error) -> String {
     match error.kind() {
         ErrorKind::NotFound => format!(
             "there is no file {path:?}: look at the spelling, and whether its disk or stick is \

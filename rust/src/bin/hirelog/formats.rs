@@ -7,9 +7,6 @@ use std::ops::RangeInclusive;
 /// Bytes of an LMS public key.
 pub const KEY_SIZE: usize = 56;
 
-/// The longest submission, in bytes.
-pub const SUBMISSION_MAX: usize = 2_097_152;
-
 /// The shortest, which is a trailer alone: its log is empty.
 pub const SUBMISSION_MIN: usize = TRAILER_SIZE;
 

@@ -1,4 +1,5 @@
-//! What may have gone wrong with the files: empty, in each other's places, of different districts.
+//! What may have gone wrong with the files: empty, in each other's places, of different districts,
+//! the same twice.
 //! A hint is a sentence without its full stop.
 
 use crate::answer::once;
@@ -6,7 +7,8 @@ use crate::files::{counted, grouped, list, Input};
 use crate::formats::{
     self, looks_like_roster, looks_like_submission, REPLICA_COUNTS, SUBMISSION_MIN,
 };
-use hirelog::{Place, Refusal, Refused, REPLICAS};
+use hirelog::{District, DistrictRefused, Place, Refusal, Refused, REPLICAS};
+use std::path::Path;
 
 /// Which of the files are empty.
 pub fn empty(files: &[Input]) -> Option<String> {
@@ -23,26 +25,85 @@ pub fn empty(files: &[Input]) -> Option<String> {
 
 /// For an audit that was refused: roster, first and second as they were given.
 pub fn refused_audit(files: &[Input; 3], refused: &Refused) -> Vec<String> {
-    let misplaced = misplaced(files);
-    let mut hints: Vec<String> = empty(files).into_iter().collect();
-    if refused.refusal == Refusal::RosterSize && misplaced.is_empty() {
-        hints.extend(roster_count(&files[0]));
-    }
-    hints.extend(misplaced);
+    let [roster, first, second] = files;
+    let mut hints = places(files, refused.refusal == Refusal::RosterSize);
     if refused.refusal == Refusal::Signature && refused.place == Place::First {
         hints.extend(both_fail(files));
     }
     if refused.refusal == Refusal::Cluster {
-        hints.extend(other_district(files, refused.place));
+        let (refused, other) =
+            if refused.place == Place::First { (first, second) } else { (second, first) };
+        hints.extend(other_district(roster, refused, &[other]));
     }
     hints
 }
 
+/// For a district's run that was refused.
+pub fn refused_district(files: &[Input], refused: &DistrictRefused) -> Vec<String> {
+    places(files, *refused == DistrictRefused::Roster(Refusal::RosterSize))
+}
+
+/// For a district's run that was made, whatever became of its submissions.
+pub fn district(files: &[Input], found: &District) -> Vec<String> {
+    let (roster, submissions) = files.split_first().expect("a roster");
+    let refused_with = |refusal: Refusal| {
+        let refusals = found.refusals.iter().zip(submissions);
+        let so = refusals.filter(|(found, _)| **found == Some(refusal)).map(|(_, file)| file);
+        so.collect::<Vec<&Input>>()
+    };
+    let mut hints = places(files, false);
+    let bad = refused_with(Refusal::Signature);
+    let differ = bad.iter().any(|file| file.bytes != bad[0].bytes);
+    if bad.len() == submissions.len() && differ {
+        hints.push(format!("all submissions fail: look at the roster {} first", roster.name()));
+    }
+    let mut strangers = refused_with(Refusal::Cluster);
+    if strangers.len() == submissions.len() && one_name(&strangers) {
+        strangers.truncate(1); // the others are told with it
+    }
+    for file in strangers {
+        let others: Vec<&Input> =
+            submissions.iter().filter(|other| !std::ptr::eq(*other, file)).collect();
+        hints.extend(other_district(roster, file, &others));
+    }
+    hints.extend(same_bytes(submissions));
+    hints
+}
+
+/// Whether all have one cluster name.
+fn one_name(submissions: &[&Input]) -> bool {
+    let mut names = submissions.iter().map(|file| formats::submission_name(&file.bytes));
+    let first = names.next();
+    names.all(|name| Some(name) == first)
+}
+
+/// What can be seen of the places that a roster and submissions were given in: empty files, and
+/// others than belong there. Where the roster was refused for its size and is none of these, what
+/// is wrong with it.
+fn places(files: &[Input], roster_refused: bool) -> Vec<String> {
+    let (roster, submissions) = files.split_first().expect("a roster");
+    let misplaced = misplaced(roster, submissions);
+    let mut hints: Vec<String> = empty(files).into_iter().collect();
+    if roster_refused && misplaced.is_empty() {
+        hints.extend(roster_count(roster));
+    }
+    hints.extend(misplaced);
+    hints
+}
+
+/// A folder that has not the files that belong there, but those of another command.
+pub fn other_folder(folder: &Path, names: &[&str], command: &str) -> Option<String> {
+    let told = format!(
+        "the folder {folder:?} has the files {}: hirelog {command} takes such a folder",
+        names.join(", ")
+    );
+    names.iter().all(|name| folder.join(name).exists()).then_some(told)
+}
+
 /// A roster where a submission belongs, or the other way round.
-fn misplaced(files: &[Input; 3]) -> Vec<String> {
-    let [roster, first, second] = files;
+fn misplaced(roster: &Input, submissions: &[Input]) -> Vec<String> {
     let rosters: Vec<&Input> =
-        [first, second].into_iter().filter(|file| looks_like_roster(&file.bytes)).collect();
+        submissions.iter().filter(|file| looks_like_roster(&file.bytes)).collect();
     if looks_like_roster(&roster.bytes) {
         let told = |file: &&Input| {
             format!("{} looks like a roster, and a submission belongs there", file.name())
@@ -114,40 +175,52 @@ pub fn signature_size(key: &Input, signature: &Input) -> Option<String> {
     (signature.bytes.len() != size && !signature.bytes.is_empty()).then_some(told)
 }
 
-/// Which of the three files does not go with the others.
-fn other_district(files: &[Input; 3], place: Place) -> Option<String> {
-    let [roster, first, second] = files;
-    let (refused, other) = if place == Place::First { (first, second) } else { (second, first) };
+/// Which of the files does not go with the others, where a submission was refused as one of another
+/// district.
+fn other_district(roster: &Input, refused: &Input, others: &[&Input]) -> Option<String> {
     let name = formats::roster_name(&roster.bytes)?;
     let refused_name = formats::submission_name(&refused.bytes)?;
-    let other_name = formats::submission_name(&other.bytes)?;
+    let named = |other: &Input, name: &[u8]| formats::submission_name(&other.bytes) == Some(name);
     let told = format!(
         "the cluster name in {} is {}, and the roster's is {}",
         refused.name(),
         formats::hex(refused_name),
         formats::hex(name)
     );
-    Some(if other_name == refused_name {
-        format!(
-            "{told}; {} has that name too, so look for the roster of that district",
-            other.name()
-        )
-    } else if other_name == name {
-        format!("{told}; {} goes with the roster", other.name())
-    } else {
-        told
-    })
+    if let Some(other) = others.iter().find(|other| named(other, name)) {
+        return Some(format!("{told}; {} goes with the roster", other.name()));
+    }
+    if others.is_empty() || !others.iter().all(|other| named(other, refused_name)) {
+        return Some(told);
+    }
+    let names: Vec<String> = others.iter().map(|other| other.name()).collect();
+    let have = if names.len() == 1 { "has" } else { "have" };
+    Some(format!(
+        "{told}; {} {have} that name too, so look for the roster of that district",
+        list(&names, "and")
+    ))
 }
 
-/// Two submissions that are one: nothing can be found between them. Two empty logs of a district
-/// have the same bytes by right.
-pub fn same_bytes(first: &Input, second: &Input) -> Option<String> {
-    let same = first.bytes == second.bytes && first.bytes.len() > SUBMISSION_MIN;
-    let told = format!(
-        "{} and {} have the same bytes, and a submission does not contradict itself: see that they \
-         are the two that you meant",
-        first.name(),
-        second.name()
-    );
-    same.then_some(told)
+/// Submissions that are one: nothing can be found between them. Empty logs of a district have the
+/// same bytes by right.
+pub fn same_bytes(submissions: &[Input]) -> Vec<String> {
+    let alike = |place: usize| {
+        let same = submissions[place..].iter().filter(|s| s.bytes == submissions[place].bytes);
+        same.map(Input::name).collect::<Vec<_>>()
+    };
+    let first = |place: &usize| {
+        let bytes = &submissions[*place].bytes;
+        let told = submissions[..*place].iter().any(|before| before.bytes == *bytes);
+        !told && bytes.len() > SUBMISSION_MIN
+    };
+    let groups = (0..submissions.len()).filter(first).map(alike).filter(|names| names.len() > 1);
+    let told = |names: Vec<String>| {
+        format!(
+            "{} have the same bytes, and a submission does not contradict itself: see that they \
+             are the {} that you meant",
+            list(&names, "and"),
+            if names.len() == 2 { "two".into() } else { names.len().to_string() }
+        )
+    };
+    groups.map(told).collect()
 }

@@ -1,13 +1,14 @@
 //! hirelog, the command for people: the library's services on files.
 //!
-//! `usage` reads the command line. Each command (`audit`, `check`, `digest`) reads its files and
-//! comes to an `Answer`, which is printed as lines, with explanations, or as JSON. A new command is
-//! a module with a `COMMAND`, and an entry in `COMMANDS`.
+//! `usage` reads the command line. Each command (`audit`, `district`, `check`, `digest`) reads its
+//! files and comes to an `Answer`, which is printed as lines, with explanations, or as JSON. A new
+//! command is a module with a `COMMAND`, and an entry in `COMMANDS`.
 
 mod answer;
 mod audit;
 mod check;
 mod digest;
+mod district;
 mod files;
 mod formats;
 mod hints;
@@ -21,7 +22,8 @@ use std::process::ExitCode;
 use usage::{Command, Request};
 
 /// The commands, in the order of the help.
-pub const COMMANDS: &[Command] = &[audit::COMMAND, check::COMMAND, digest::COMMAND];
+pub const COMMANDS: &[Command] =
+    &[audit::COMMAND, district::COMMAND, check::COMMAND, digest::COMMAND];
 
 /// What a run leaves: bytes for stdout, messages for stderr, and the exit status.
 struct Outcome {

@@ -109,7 +109,8 @@ fn option_first(arguments: &[OsString]) -> Failure {
     }
     let why = match rest.split_first().map(|(name, after)| (find(name), after)) {
         Some((Ok(command), after)) => {
-            let others: Vec<String> = before.iter().chain(after).map(written).collect();
+            let others: Vec<String> =
+                before.iter().chain(after).map(|argument| written(argument)).collect();
             let line = format!("{} {}", command.full_name(), others.join(" "));
             format!("options stand after the command: {line}")
         }
@@ -119,7 +120,7 @@ fn option_first(arguments: &[OsString]) -> Failure {
 }
 
 /// An argument as it can be typed: in quotes where a shell might take it for something else.
-fn written(argument: &OsString) -> String {
+pub fn written(argument: &OsStr) -> String {
     let plain = |byte: &u8| byte.is_ascii_alphanumeric() || b"-_./,:+=@%".contains(byte);
     let bytes = argument.as_encoded_bytes();
     if !bytes.is_empty() && bytes.iter().all(plain) {
@@ -201,7 +202,7 @@ fn help() -> String {
     }
     text.push('\n');
     for command in COMMANDS {
-        text += &format!("  {:<7} {}\n", command.name, command.purpose);
+        text += &format!("  {:<8} {}\n", command.name, command.purpose);
     }
     text += "\nEach command's --help says what it prints; hirelog --version prints the version.\n";
     text += &format!("\n{OPTIONS}");
