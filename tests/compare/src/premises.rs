@@ -2,7 +2,6 @@
 //! names somebody, and beside whoever is named replicas that meet every premise, with signatures
 //! of their own in the pair. The same of lists of submissions, in which some pair forks.
 
-use crate::calls::district;
 use auditor::audit::compare;
 use auditor::cluster::Keys;
 use auditor::depot::{self, report_size};
@@ -76,7 +75,7 @@ pub fn hold_in_lists() -> Result<String, &'static str> {
             let lengths: Vec<u32> = submitted.bytes.iter().map(|one| one.len() as u32).collect();
             let mut report = vec![0xa5; report_size(list.len())];
             let buffer = submitted.bytes.concat();
-            if district::run(&submitted.roster, &buffer, &lengths, &mut report) != 0 {
+            if hirelog::district_into(&submitted.roster, &buffer, &lengths, &mut report) != 0 {
                 return Err("a list is refused");
             }
             let found = depot::Findings::read(&report, list.len());

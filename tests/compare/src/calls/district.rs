@@ -7,6 +7,7 @@ use auditor::cases::Size;
 use auditor::depot::{cases, district, end_to_end, report_size, Findings, MOST};
 use auditor::submission::{RECORD_SIZE, TRAILER_SIZE};
 use auditor::verdicts::Verdicts;
+use hirelog::sys::hirelog_district;
 use std::cell::RefCell;
 use std::ptr;
 
@@ -18,39 +19,8 @@ static SHAPE: Shape = Shape {
     numbers: &[0, 1, 2, 3, 4, 17, 18],
     within: &[0, 5, 6, 7, 8, 9, 10, 11, 12, 13, 14, 15],
     fewest: (6000, 600),
-    tool: None,
+    tool: Some("district_tool"),
 };
-
-extern "C" {
-    fn hirelog_district(
-        roster: *const u8,
-        roster_len: usize,
-        buffer: *const u8,
-        buffer_len: usize,
-        lengths: *const u32,
-        count: usize,
-        report: *mut u8,
-        report_len: usize,
-    ) -> u32;
-}
-
-/// The library's run over slices: the number, with the report's bytes in the buffer if that is 0.
-pub fn run(roster: &[u8], buffer: &[u8], lengths: &[u32], report: &mut [u8]) -> u32 {
-    // SAFETY: each pointer is a slice's, with the slice's length; the report is lent to nobody
-    // else.
-    unsafe {
-        hirelog_district(
-            roster.as_ptr(),
-            roster.len(),
-            buffer.as_ptr(),
-            buffer.len(),
-            lengths.as_ptr(),
-            lengths.len(),
-            report.as_mut_ptr(),
-            report.len(),
-        )
-    }
-}
 
 #[derive(Default)]
 pub struct District {
@@ -83,7 +53,7 @@ impl Call for District {
         let aligned = room.as_ref().map(|room| &room[1..]);
         let given = (roster.bytes(), buffer.bytes(), aligned, report.bytes());
         if let (Some(roster), Some(buffer), Some(lengths), Some(report)) = given {
-            return vec![run(roster, buffer, lengths, report).into()];
+            return vec![hirelog::district_into(roster, buffer, lengths, report).into()];
         }
         let start = aligned.map_or(ptr::null(), |lengths| lengths.as_ptr());
         // SAFETY: as the harness says; there are as many lengths as are read.
