@@ -4,18 +4,15 @@ use mathlib.Core.Path.{_≡_, refl, ap}
 use mathlib.Core.Bool.{false}
 use mathlib.Core.List.{List, [], _∷_, List·Memᴰ, List·Memᴰ·head, List·Memᴰ·tail, List·Memᴰ·not-nil, List·Memᴰ·cases-cons}
 use mathlib.Core.Logic.{⊎-elim}
-use Prim.Native.Nat.{ℕ, _^_, _≤_, _<_}
+use Prim.Native.Nat.{ℕ, _^_, _<_}
 use native.Mathlib.Omega.{arith}
-use lib.Bits.{bitOr, or-add-and, and-le-l, and-le-r, or-lt}
+use lib.Bits.{or-lt}
 use lib.Dec.{lit<}
 use Rattle.roster.specs.Masks.{signer}
-use Rattle.roster.proofs.Masks.{signer-none, or-clear}
+use Rattle.roster.proofs.Masks.{signer-none, or-le, or-clear}
 use Rattle.forensics.specs.Findings.{findings, rowsFrom, rowCount, maskOf}
 use Rattle.forensics.proofs.Rows.{mask-small}
 use Rattle.district.specs.District.{Pair, found, union}
-
-or-le : (a b : ℕ) → (a ≤ bitOr a b) × (b ≤ bitOr a b)
-or-le a b = (omega (arith, or-add-and a b, and-le-r a b), omega (arith, or-add-and a b, and-le-l a b))
 
 module _ (roster : List ℕ) where
   -- whom a pair names

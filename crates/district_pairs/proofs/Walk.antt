@@ -1,11 +1,12 @@
 -- The accepted submissions from a place on: the one that stands there, and the later ones; and what pairs show when one more comes before them.
 -- Assumes nothing.
-use mathlib.Core.Path.{_≡_, refl, ap, _∙_}
-use mathlib.Core.List.{List, [], _∷_, _++_, map, List·Memᴰ, List·Memᴰ·head, List·Memᴰ·tail}
-use Prim.Native.Nat.{ℕ, zero, suc, _+_, _-_, _≤_, _<_}
+use mathlib.Core.Path.{_≡_, ap, _∙_}
+use mathlib.Core.List.{List, [], _∷_, _++_, map, List·Memᴰ}
+use Prim.Native.Nat.{ℕ, suc, _+_, _-_, _≤_, _<_}
 use native.Mathlib.Omega.{arith}
-use lib.ListN.{length, take, drop, getD, length-map, length-take, drop-of-length-le, List·getD-map}
+use lib.ListN.{length, drop, getD, length-map, length-take, drop-of-length-le, List·getD-map}
 use lib.Seq.{drop-cons, getD-take}
+use Rattle.words.proofs.Members.{mem-at}
 use Rattle.forensics.specs.Findings.{Findings}
 use Rattle.district.specs.declared.Shown.{Shown}
 use Rattle.district.specs.District.{Entry, pair, pairs, found, union, firstFork, shown}
@@ -14,15 +15,6 @@ use Rattle.district_pairs.specs.declared.Entries.{Entries}
 use Rattle.district_pairs.specs.Entries.{entryOf, partsOf, entriesOf, sooner, before}
 
 -- ---- the submissions
-
-mem-at : {A : Type 0} (l : List A) (i : ℕ) (d : A) → i < length l → List·Memᴰ (getD l i d) l
-mem-at [] i d h = absurd (omega arith)
-mem-at (x ∷ l) zero d h = List·Memᴰ·head refl
-mem-at (x ∷ l) (suc i) d h = List·Memᴰ·tail (mem-at l i d (omega arith))
-
--- a part of so many bytes, as the slice from its start to its end is told
-pub from-to : (buffer : List ℕ) (start size : ℕ) → take (start + size - start) (drop start buffer) ≡ take size (drop start buffer)
-from-to buffer start size = let e : start + size - start ≡ size = omega arith in ap (λ (k : ℕ). take k (drop start buffer)) e
 
 module _ (e : Entries) (whole : e .count ≤ length (e .parts)) where
   parts-length : length (partsOf e) ≡ e .count

@@ -8,7 +8,7 @@ use Prim.Native.Nat.{ℕ, zero, suc, _+_, _-_, _/_, _%_, _^_, _≤_, _<_}
 use native.Mathlib.Nat.{div-one, zero-div}
 use native.Mathlib.Omega.{arith}
 use borrow.Author.Tests.{eq-eqb, eqb-true, eqb-false}
-use lib.Bits.{bitOr, or-mod, or-shr, or-zero-l}
+use lib.Bits.{bitOr, or-add-and, and-le-l, and-le-r, or-mod, or-shr, or-zero-l}
 use lib.Dec.{eqb}
 use Rattle.refusal.proofs.Laws.{look}
 use Rattle.roster.specs.Masks.{signer, replicasFrom, replicasOf}
@@ -44,6 +44,10 @@ pub signer-none : (k : ℕ) → signer 0 k ≡ false
 signer-none k = ⊎-elim (λ (e : signer 0 k ≡ true). absurd (omega (arith, signer-positive 0 k e))) (λ e. e) (look (signer 0 k))
 
 -- ---- two masks together
+
+-- a union is no smaller than either
+pub or-le : (a b : ℕ) → (a ≤ bitOr a b) × (b ≤ bitOr a b)
+or-le a b = (omega (arith, or-add-and a b, and-le-r a b), omega (arith, or-add-and a b, and-le-l a b))
 
 -- a union has a signer only where one of the two has
 pub or-clear : (a b k : ℕ) → signer a k ≡ false → signer b k ≡ false → signer (bitOr a b) k ≡ false

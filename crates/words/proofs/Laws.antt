@@ -153,6 +153,10 @@ be-pad (suc k) w n h =
 pub part-end : (l : List ℕ) (n : ℕ) → take (length l - n) (drop n l) ≡ drop n l
 part-end l n = take-all (length l - n) (drop n l) (rw length-drop (le-refl (length l - n)))
 
+-- a part of so many elements, from its start to its end
+pub part-from : (l : List ℕ) (n k : ℕ) → take (n + k - n) (drop n l) ≡ take k (drop n l)
+part-from l n k = let size : n + k - n ≡ k = omega arith in ap (λ (m : ℕ). take m (drop n l)) size
+
 -- ---- bytes back from their number
 
 -- more than the lowest bytes does not count

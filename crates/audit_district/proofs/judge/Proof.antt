@@ -15,7 +15,7 @@ use Rattle.district_parts.proofs.Parts.{parts-length, sum-next, counted-most}
 use Rattle.district.specs.District.{acceptedFrom, accepted, numberBytes}
 use Rattle.district_pairs.specs.declared.Part.{Part}
 use Rattle.district_pairs.specs.Entries.{entryOf, partsOf, entriesOf, Fit, Room}
-use Rattle.district_pairs.proofs.Walk.{from-to}
+use Rattle.words.proofs.Laws.{part-from}
 use Rattle.audit_district.proofs.Judged.{this, room-of, number-put, entries-next, fits-next}
 use Rattle.audit_district.proofs.judge.Statement.{statement}
 use Rattle.audit_district.proofs.judge.Tie as tie
@@ -96,7 +96,7 @@ loop-again c =
     let inside : l .i < length L = search needs in
     let next : l .i + 1 ≡ suc (l .i) = omega arith in
     let number : judged .number .result ≡ validate R (this R B L (l .i) inside) =
-    judged .number .ensures ∙ ap (validate R) (from-to B (l .at) size ∙ ap (λ (k : ℕ). take size (drop k B)) (l .inv .1)) in
+    judged .number .ensures ∙ ap (validate R) (part-from B (l .at) size ∙ ap (λ (k : ℕ). take size (drop k B)) (l .inv .1)) in
     let put = c .before .before .before .put-u8 in
     let bytes : put .last .0 ≡ over (numberBytes R (take (suc (l .i)) (parts L B))) (a .report .now) =
     put .ensures ∙ (λ k. sets (l .inv .3 k) (l .i) (be 1 (number k))) ∙ number-put R B L (l .i) inside (a .report .now) (start .pre .3) in (

@@ -5,7 +5,7 @@ use borrow.Author.Needs.{needs}
 use Rattle.submission.specs.Validate.{validate}
 use Rattle.district.specs.District.{entry, pair, found}
 use Rattle.district_pairs.specs.Entries.{entryOf}
-use Rattle.district_pairs.proofs.Walk.{from-to}
+use Rattle.words.proofs.Laws.{part-from}
 use Rattle.district_pairs.proofs.audit_parts.Statement.{statement}
 use Rattle.district_pairs.proofs.audit_parts.Tie as tie
 
@@ -16,8 +16,8 @@ find-requires c κs =
     let a = start .args in
     let b = a .buffer .now in (
       start .pre .0,
-      ap (validate (a .roster .now)) (from-to b (a .a .start) (a .a .size)) ∙ start .pre .1 .valid,
-      ap (validate (a .roster .now)) (from-to b (a .b .start) (a .b .size)) ∙ start .pre .2 .valid,
+      ap (validate (a .roster .now)) (part-from b (a .a .start) (a .a .size)) ∙ start .pre .1 .valid,
+      ap (validate (a .roster .now)) (part-from b (a .b .start) (a .b .size)) ∙ start .pre .2 .valid,
     )
 
 returns : tie.Need-returns
@@ -25,7 +25,7 @@ unfolding entryOf entry pair found
 returns c =
     let a = c .before .before .before .before .before .before .before .args in
     let b = a .buffer .now in
-    rw (← from-to b (a .a .start) (a .a .size), ← from-to b (a .b .start) (a .b .size)) (c .find .ensures)
+    rw (← part-from b (a .a .start) (a .a .size), ← part-from b (a .b .start) (a .b .size)) (c .find .ensures)
 
 pub audit-parts-spec : {M : Type 1} → statement M
 audit-parts-spec =
