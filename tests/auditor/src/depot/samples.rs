@@ -72,21 +72,21 @@ pub fn more(cluster: &Rc<Cluster>, keys: &Keys) -> Vec<List> {
     ]
 }
 
-/// As many leaves as a replica needs for the nine: 36 votes, 16 stamps and 5 receipts.
-const NINE_LEAVES: u32 = 57;
+/// As many leaves as a replica needs for the nine: 64 votes, 16 stamps and 9 receipts.
+const NINE_LEAVES: u32 = 89;
 
-/// Nine large submissions of nine replicas: 64 terms and 4,096 records, of which the last is
-/// another in each, and committed by other replicas.
+/// Nine submissions of nine replicas with the most records, terms and signatures that there can be:
+/// 4,096 records, of which the last is another in each, and 64 terms, all signed by every replica.
 fn nine(signer: &Signer) -> Vec<Draft> {
-    let turned = |by: u16| mask_of(&(0..5).map(|i| (i + by) % 9 + 1).collect::<Vec<_>>());
+    let everybody = mask_of(&[1, 2, 3, 4, 5, 6, 7, 8, 9]);
     let mut records: Vec<Record> = (0..4096u32)
         .map(|i| Record { term: 1 + i / 64, payload: sha256(&[&i.to_be_bytes()]) })
         .collect();
-    let leaders: Vec<(u16, u16)> = (0..64).map(|i| (i % 9 + 1, turned(i))).collect();
+    let leaders: Vec<(u16, u16)> = (0..64).map(|i| (i % 9 + 1, everybody)).collect();
     (0..9)
         .map(|k: u16| {
             records[4095].payload = sha256(&[b"last", &k.to_be_bytes()]);
-            signer.submission(&records, &leaders, Some((4096, turned(k))))
+            signer.submission(&records, &leaders, Some((4096, everybody)))
         })
         .collect()
 }
