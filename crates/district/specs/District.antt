@@ -48,7 +48,7 @@ pub record Pair : Type 0 where
 unfoldable pub pair : Entry → Entry → Pair
 pair a b = record { lower = a; higher = b }
 
--- "every pair of accepted ones, lower position first": by the lower, then by the higher position
+-- "Every pair of accepted ones is audited, lower position first": by the lower, then by the higher position
 unfoldable pub pairs : List Entry → List Pair
 pairs [] = []
 pairs (a ∷ later) = map (pair a) later ++ pairs later
@@ -65,7 +65,7 @@ unfoldable pub union : List ℕ → List Pair → ℕ
 union roster [] = 0
 union roster (p ∷ later) = bitOr (maskOf (found roster p .rows)) (union roster later)
 
--- "the first pair that forks, 0 and 0 if none"
+-- "the first pair that forks (by lower, then higher position, from 1), .. 0 and 0 if none"
 unfoldable pub firstFork : List ℕ → List Pair → Fork
 firstFork roster [] = record { index = 0; lower = 0; higher = 0 }
 firstFork roster (p ∷ later) =
@@ -78,11 +78,11 @@ shown roster ps = record { named = union roster ps; fork = firstFork roster ps }
 
 -- ---- the number
 
--- "the count of lengths plus 4": the union, and the pair
+-- "the count of lengths plus 4": the union's two bytes, and the pair's two
 abbrev pub tailSize : ℕ
 tailSize = 4
 
--- 2 to 4, "17, after 4; 18, after 17; 1, after 18"
+-- 2 to 4 for the roster, then 17, then 18, then 1
 unfoldable pub districtNumber : List ℕ → List ℕ → List ℕ → List ℕ → ℕ
 districtNumber roster buffer lengths report =
     first (rosterNumber roster) (refusal (
@@ -96,7 +96,7 @@ districtNumber roster buffer lengths report =
 unfoldable pub numberBytes : List ℕ → List (List ℕ) → List ℕ
 numberBytes roster submissions = flatMap (λ s. be 1 (validate roster s)) submissions
 
--- "then the union of named boards (u16) and the first pair that forks, one byte each"
+-- "The report then has the union of named boards (u16) and the first pair that forks .., one byte each"
 unfoldable pub tailBytes : Shown → List ℕ
 tailBytes s = be 2 (s .named) ++ be 1 (s .fork .lower) ++ be 1 (s .fork .higher)
 
