@@ -10,6 +10,8 @@ ghost use Rattle.roster.specs.Roster.{rosterNumber};
 ghost use Rattle.district_parts.specs.Parts.{parts, counted, addsUp};
 ghost use Rattle.district.specs.District as paper;
 ghost use Rattle.district_pairs.specs.Entries as inner;
+use district::HIGHER_AT;
+use district::LOWER_AT;
 use district::Shown;
 use district::TAIL_SIZE;
 use district_pairs::Entries;
@@ -47,8 +49,8 @@ fn put_tail(report: &mut [u8], at: usize, shown: Shown)
 {
     let fork = shown.fork;
     words::put_u16(report, at, shown.named);
-    words::put_u8(report, at + 2, fork.lower);
-    words::put_u8(report, at + 3, fork.higher);
+    words::put_u8(report, at + LOWER_AT, fork.lower);
+    words::put_u8(report, at + HIGHER_AT, fork.higher);
 }
 
 // Writes the report of a run that is not refused.

@@ -3,6 +3,11 @@
 // The bytes of the report after the submissions' numbers: the union, and the pair.
 pub const TAIL_SIZE: usize = 4;
 
+// Where the positions of the pair stand in them, behind the union.
+pub const LOWER_AT: usize = 2;
+
+pub const HIGHER_AT: usize = 3;
+
 // A fork: its index, and the positions of its pair, from 1. All are 0 where there is none.
 pub struct Fork {
     pub index: u32,
