@@ -25,6 +25,7 @@ use Rattle.forensics.specs.Findings.{fork, says, charges, lowest, rowsFrom, bit
 use Rattle.report.specs.Figures.{sampleKey, sampleRoster, sampleSubmission}
 use Rattle.report.proofs.Premises.{three}
 use Rattle.district_parts.specs.Parts.{parts, counted, sum, addsUp}
+use Rattle.district.specs.declared.Fork.{Fork}
 use Rattle.district.specs.District.{Entry, entry, acceptedFrom, accepted, Pair, pair, pairs, found, union, firstFork, shown, districtNumber, numberBytes, tailBytes, districtBytes, districtAfter}
 
 -- number and buffer afterwards, from a report of so many bytes of 9
@@ -44,7 +45,7 @@ unfolding three ran districtNumber districtAfter districtBytes numberBytes tailB
     countedSubmission commitSigners masks ordered oneEach within formOf viewOf slotsOf validate signatureSize signatureLength pathAt oneTimeBytes row levels height
 written = refl
 
--- each fault with all those after it: the roster, then 17, 18 and 1; a count of 10 and a report a byte short too
+-- each fault with all those after it: 2 and 4 for the roster, then 17, 18 and 1; a count of 10 and a report a byte short too
 orders : (ran [] (7 ∷ []) [] 0 ≡ unwritten 2 0) × (ran (sampleRoster 3 (1 ∷ 2 ∷ 1 ∷ [])) (7 ∷ []) [] 0 ≡ unwritten 4 0) × (ran three (7 ∷ []) [] 0 ≡ unwritten 17 0)
     × (ran three [] (replicate 10 0) 14 ≡ unwritten 17 14) × (ran three (7 ∷ []) (0 ∷ 0 ∷ []) 0 ≡ unwritten 18 0) × (ran three [] (0 ∷ 0 ∷ []) 5 ≡ unwritten 1 5)
 unfolding three ran unwritten districtNumber districtAfter first counted sum addsUp sampleKey sampleRoster be number numberAt same flatMap all every check refusal cluster replicas
@@ -58,13 +59,21 @@ every-two a b c = refl
 
 -- of two pairs that fork the first by position stays, whatever their indexes; a pair that does not fork is passed over
 module _ (roster : List ℕ) (p q : Pair) where
-  first-or-later : Bool → ℕ
-  first-or-later none = cond none (firstFork roster (q ∷ [])) (record { index = found roster p .fork; lower = p .lower .position; higher = p .higher .position }) .lower
+  own : Fork
+  own = record { index = found roster p .fork; lower = p .lower .position; higher = p .higher .position }
 
-  first-stays : (found roster p .fork ≡ 0 → ⊥) → (found roster q .fork ≡ 0 → ⊥) → firstFork roster (p ∷ q ∷ []) .lower ≡ p .lower .position
-  unfolding firstFork first-or-later
-  first-stays h k = ap first-or-later (ne-eqb (found roster p .fork) 0 h)
+  own-or-later : Bool → Fork
+  own-or-later none = cond none (firstFork roster (q ∷ [])) own
 
-  passed-over : found roster p .fork ≡ 0 → firstFork roster (p ∷ q ∷ []) .lower ≡ firstFork roster (q ∷ []) .lower
-  unfolding firstFork first-or-later
-  passed-over h = ap first-or-later (eq-eqb (found roster p .fork) 0 h)
+  first-stays : (found roster p .fork ≡ 0 → ⊥) → (found roster q .fork ≡ 0 → ⊥) → firstFork roster (p ∷ q ∷ []) ≡ own
+  unfolding firstFork own-or-later own
+  first-stays h k = ap own-or-later (ne-eqb (found roster p .fork) 0 h)
+
+  passed-over : found roster p .fork ≡ 0 → firstFork roster (p ∷ q ∷ []) ≡ firstFork roster (q ∷ [])
+  unfolding firstFork own-or-later own
+  passed-over h = ap own-or-later (eq-eqb (found roster p .fork) 0 h)
+
+-- the tail: the union of two bytes, the lower position, the higher
+tail : tailBytes (record { named = 258; fork = record { index = 7; lower = 3; higher = 5 } }) ≡ 1 ∷ 2 ∷ 3 ∷ 5 ∷ []
+unfolding tailBytes be
+tail = refl

@@ -1,21 +1,23 @@
 -- The pairs of accepted submissions: of any two accepted members of the list there is a pair, one way or the other, and a pair's submissions
--- are accepted members.
+-- are accepted members; and what it shows is what document 01's audit finds.
 -- Assumes nothing.
 use mathlib.Core.Path.{_≡_, refl, sym, ap, _∙_}
 use mathlib.Core.Bool.{true, false, cond}
 use mathlib.Core.List.{List, [], _∷_, _++_, map, List·Memᴰ, List·Memᴰ·head, List·Memᴰ·tail, List·Memᴰ·not-nil, List·Memᴰ·cases-cons, List·Memᴰ·append-cases, Memᴰ·append-left, Memᴰ·append-right, Memᴰ·cast, Memᴰ·map, Memᴰ·of-map}
 use mathlib.Core.Logic.{_⊎_, inl, inr, ⊎-elim}
 use Prim.Native.Nat.{ℕ, suc}
-use borrow.Author.Tests.{eqb-true, eqb-false}
+use borrow.Author.Tests.{eqb-true, eqb-false, eq-eqb}
 use lib.Dec.{eqb}
 use lib.ListN.{take, drop}
 use Rattle.words.proofs.Bytes.{Bytes}
 use Rattle.words.proofs.Laws.{bytes-drop, bytes-take}
 use Rattle.words.proofs.Members.{mem-cond}
 use Rattle.refusal.proofs.Laws.{look}
+use Rattle.roster.specs.Roster.{rosterNumber}
 use Rattle.submission.specs.Validate.{validate}
+use Rattle.report.specs.Report.{answer}
 use Rattle.district_parts.specs.Parts.{parts}
-use Rattle.district.specs.District.{Entry, entry, acceptedFrom, Pair, pair, pairs}
+use Rattle.district.specs.District.{Entry, entry, acceptedFrom, Pair, pair, pairs, found}
 
 -- ---- pairs of entries
 
@@ -104,3 +106,11 @@ part-bytes (k ∷ sizes) buffer b s m =
     (λ (e : s ≡ take k buffer). rw e (bytes-take k buffer b))
     (λ h. part-bytes sizes (drop k buffer) (bytes-drop k buffer b) s h)
     (List·Memᴰ·cases-cons m)
+
+-- ---- the audit of a pair
+
+-- what two accepted submissions show is what the audit of the two finds
+audited : (roster : List ℕ) (p : Pair) → rosterNumber roster ≡ 0 → validate roster (p .lower .bytes) ≡ 0 → validate roster (p .higher .bytes) ≡ 0
+    → answer roster (p .lower .bytes) (p .higher .bytes) .findings ≡ found roster p
+unfolding answer found
+audited roster p fine one other = rw (eq-eqb _ 0 fine, eq-eqb _ 0 one, eq-eqb _ 0 other)

@@ -31,7 +31,7 @@ module _ (roster buffer : List ℕ) (j k l number : ℕ) (report : List ℕ) whe
   three : List ℕ
   three = take l (drop k (drop j buffer))
 
-  -- naming: the first and the last, which are no neighbours, either way round
+  -- naming: the last and the first, which are no neighbours, and not in the list's order
   ends-named : DistrictNaming roster buffer (j ∷ k ∷ l ∷ []) number report → number ≡ 0 → validate roster one ≡ 0 → validate roster three ≡ 0
       → Differ (committed (viewOf roster three)) (committed (viewOf roster one)) → namedAmong 3 report ≡ 0 → ⊥
   unfolding DistrictNaming parts one three

@@ -52,8 +52,8 @@ pub extern "C" fn hirelog_audit(
 }
 
 // The audit of a district (document 02, W1): up to nine submissions end to end in one buffer. The number,
-// and with number 0 the report in the buffer's first bytes, four more than there are lengths; a refused run
-// writes nothing. Demand 3 stands on the number and on the report's own bytes, over the whole list.
+// and with number 0 the first bytes of the report, four more than there are lengths; a refused run writes
+// nothing. Demand 3 stands on the number and on the report's own bytes, over the whole list.
 #[no_mangle]
 pub extern "C" fn hirelog_district(
     roster: &[u8],

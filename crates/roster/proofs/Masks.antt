@@ -8,7 +8,7 @@ use Prim.Native.Nat.{ℕ, zero, suc, _+_, _-_, _/_, _%_, _^_, _≤_, _<_}
 use native.Mathlib.Nat.{div-one, zero-div}
 use native.Mathlib.Omega.{arith}
 use borrow.Author.Tests.{eq-eqb, eqb-true, eqb-false}
-use lib.Bits.{bitOr, or-add-and, and-le-l, and-le-r, or-mod, or-shr, or-zero-l}
+use lib.Bits.{bitOr, or-add-and, and-le-l, and-le-r, or-comm, or-mod, or-self, or-shr, or-zero-l, or-zero-r}
 use lib.Dec.{eqb}
 use Rattle.refusal.proofs.Laws.{look}
 use Rattle.roster.specs.Masks.{signer, replicasFrom, replicasOf}
@@ -59,3 +59,19 @@ or-clear a b k e d =
     or-mod (a / 2 ^ j) (b / 2 ^ j) 1 ∙ ap (λ x. bitOr x (b / 2 ^ j % 2 ^ 1)) (low (a / 2 ^ j) e) ∙ or-zero-l (b / 2 ^ j % 2 ^ 1) ∙ low (b / 2 ^ j) d in
     let even : bitOr (a / 2 ^ j) (b / 2 ^ j) % 2 ≡ 0 = none in
     rw (or-shr a b j, even)
+
+-- and has every signer of each
+or-low : (x y : ℕ) → x % 2 ≡ 1 → bitOr x y % 2 ≡ 1
+or-low x y e =
+    let one : x % 2 ^ 1 ≡ 1 = e in
+    let either : (y % 2 ^ 1 ≡ 0) ⊎ (y % 2 ^ 1 ≡ 1) =
+    ⊎-elim (λ (h : eqb (y % 2 ^ 1) 0 ≡ true). inl (eqb-true _ 0 h)) (λ h. let z = eqb-false (y % 2 ^ 1) 0 h in inr (omega arith)) (look (eqb (y % 2 ^ 1) 0)) in
+    or-mod x y 1 ∙ ap (λ z. bitOr z (y % 2 ^ 1)) one
+    ∙ ⊎-elim (λ (h : y % 2 ^ 1 ≡ 0). ap (bitOr 1) h ∙ or-zero-r 1) (λ h. ap (bitOr 1) h ∙ or-self 1) either
+
+pub or-left : (a b k : ℕ) → signer a k ≡ true → signer (bitOr a b) k ≡ true
+unfolding signer
+or-left a b k e = eq-eqb _ 1 (ap (λ z. z % 2) (or-shr a b (k - 1)) ∙ or-low (a / 2 ^ (k - 1)) (b / 2 ^ (k - 1)) (eqb-true _ 1 e))
+
+pub or-right : (a b k : ℕ) → signer b k ≡ true → signer (bitOr a b) k ≡ true
+or-right a b k e = ap (λ z. signer z k) (or-comm a b) ∙ or-left b a k e

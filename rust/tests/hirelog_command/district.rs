@@ -235,7 +235,10 @@ fn which_pairs() {
     let line = |files: [&Path; 3]| format!("`hirelog audit {}`", files.map(shown).join(" "));
     let part = format!("the two that part first: {}.", line([&roster, &first, &second]));
     assert!(text.contains(&part), "{part}: {text}");
-    assert!(text.contains("If board 1 is not named there, audit the other pairs"), "{text}");
+    let others =
+        "If board 1 is not named there, audit every other two of the accepted submissions \
+        1, 2 and 3 in the same way.";
+    assert!(text.contains(others), "{text}");
 }
 
 fn shown(path: &Path) -> String {
@@ -301,7 +304,8 @@ fn folders() {
     let pair = "has the files roster, first, second: hirelog audit takes such a folder\n";
     run().fails(74, &["has no file 1 or 2, with exactly these names", pair]);
     folder.put("1", &fs::read(&first).expect("a sample"));
-    run().fails(74, &["has no file 2, with exactly this name", instead]);
+    let least = "a run takes two submissions at least, 1 and 2\n";
+    run().fails(74, &["has no file 2, with exactly this name", instead, least]);
     for number in 2..=9 {
         folder.put(number.to_string(), &fs::read(&second).expect("a sample"));
         let run = run();
@@ -313,6 +317,7 @@ fn folders() {
         folder.put(name, b"x");
     }
     assert_eq!(run().out.matches("number 0").count(), 9);
+    run().tells(&["the folder also has \"02\", \"2026\" and \"3.old\", which the run passes by"]);
     folder.put("10", b"x");
     expect(&[&folder.0], "refusal 17\n", 2).tells(&["Here there were 10."]);
     fs::remove_file(folder.0.join("7")).expect("removed");
@@ -333,9 +338,10 @@ fn exchanged() {
     for files in [[f, r, s, s], [s, f, f, r]] {
         let told = format!("{} looks like a roster, and {} does not", quoted(r), quoted(files[0]));
         let run = expect(&files, "refusal 2\n", 2);
-        run.tells(&[&told, "they seem to be exchanged"]);
+        run.tells(&[&told, "name the roster first, and then the submissions in their order"]);
         assert_eq!(run.err.lines().count(), 3, "{run:?}");
     }
+    expect(&[f, r, s], "refusal 2\n", 2).tells(&["they seem to be exchanged"]);
     let told = format!("{} looks like a submission, and the roster belongs there", quoted(f));
     expect(&[f, s], "refusal 2\n", 2).tells(&[&told]);
     let told = format!("{} looks like a roster, and a submission belongs there", quoted(r));
@@ -369,6 +375,9 @@ fn districts() {
     let damaged = folder.put("roster", &bytes);
     let told = format!("all submissions fail: look at the roster {} first", quoted(&damaged));
     expect(&[&damaged, f, s], &lines(&[15, 15], "fork 0 0\n"), 2).tells(&[&told]);
+    let [_, empty, _] = sample("empty");
+    expect(&[&damaged, &empty, f, s], &lines(&[0, 15, 15], "fork 0 0\n"), 2)
+        .tells(&["all submissions that are no empty log fail: look at the roster"]);
     let twice = expect(&[&damaged, f, f], &lines(&[15, 15], "fork 0 0\n"), 2);
     assert!(!twice.err.contains("all submissions fail"), "{twice:?}");
 }
@@ -400,6 +409,7 @@ fn long_files() {
     let ending = |size: usize| [&vec![0; size - empty.len()], &empty[..]].concat();
     let longest = folder.put("longest", &ending(2_097_152));
     let longer = folder.put("longer", &ending(2_097_153));
+    let other = folder.put("other", &[&ending(2_097_153)[..], b"x"].concat());
     let endless = PathBuf::from("/dev/zero");
     let [roster, first, _] = sample("empty");
     let files = [&roster, &longest, &first, &longer, &endless];
@@ -412,4 +422,8 @@ fn long_files() {
         "submission 4, \"/dev/zero\" (more than 2,097,152 bytes), was refused: number 5",
         "This one has more than 2,097,152.",
     ]);
+    // Only their beginnings are read: that these are alike says nothing.
+    let lines = "refusal 0\nsubmission 1 number 5\nsubmission 2 number 5\nfork 0 0\n";
+    let run = expect(&[&roster, &longer, &other], lines, 2);
+    assert!(!run.err.contains("the same bytes"), "{run:?}");
 }

@@ -9,7 +9,7 @@ fn wrong_uses() {
         (&["adit", "x"], "there is no command \"adit\", but audit, district, check, sha256"),
         (&[""], "there is no command \"\""),
         (&["--explain", "audit", "x"], "stand after the command: hirelog audit --explain x\n"),
-        (&["--json", "--", "check", "x y", "-"], ": hirelog check --json -- \"x y\" -\n"),
+        (&["--json", "--", "check", "x y", "-"], ": hirelog check --json -- 'x y' -\n"),
         (
             &["--explain"],
             "options stand after the command: name one first: audit, district, check, sha256",

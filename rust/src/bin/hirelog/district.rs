@@ -31,8 +31,8 @@ to 9; or name the roster and each submission. It prints
                          the submissions, that contradict each other
 
 Which rule a board broke, in which term, and at which index two logs part says
-hirelog audit of the two; --explain gives its command line. A message says why a
-submission was refused, also where a board is named.
+hirelog audit of the two; --explain gives a command line to begin with. A
+message says why a submission was refused, also where a board is named.
 ",
     statuses: &[
         (Status::NothingFound, "nothing found: all submissions accepted, no board named"),
@@ -57,6 +57,8 @@ struct Files {
     paths: Vec<PathBuf>,
     /// Those that were read: of too many submissions one too many.
     read: Vec<Input>,
+    /// Names in the folder that begin with a digit and are no submission's.
+    passed_by: Vec<String>,
 }
 
 impl Files {
@@ -73,13 +75,13 @@ impl Files {
 /// the library's to say. Whatever is longer than a submission may be gets the number of its size: 2
 /// for the roster, 5 for a submission.
 fn run(operands: &[PathBuf]) -> Result<Answer, Failure> {
-    let paths = match operands {
+    let (paths, passed_by) = match operands {
         [] => return Err(wrong_count(&COMMAND, 0)),
         [folder] => numbered(folder)?,
-        _ => operands.to_vec(),
+        _ => (operands.to_vec(), Vec::new()),
     };
     let taken = paths.iter().take(1 + DISTRICT_MAX + 1).cloned();
-    let files = Files { read: read_each(taken, SUBMISSION_MAX)?, paths };
+    let files = Files { read: read_each(taken, SUBMISSION_MAX)?, paths, passed_by };
     let bytes: Vec<&[u8]> = files.submissions().iter().map(|file| &file.bytes[..]).collect();
     Ok(match hirelog::district(&files.roster().bytes, &bytes) {
         Ok(found) => made(&files, &found),
@@ -87,18 +89,32 @@ fn run(operands: &[PathBuf]) -> Result<Answer, Failure> {
     })
 }
 
-/// The folder's roster, and its submissions 1, 2, .. as far as they go; or says what is missing.
-fn numbered(folder: &Path) -> Result<Vec<PathBuf>, Failure> {
+/// The folder's roster, and its submissions 1, 2, .. as far as they go, with the names that are
+/// passed by; or says what is missing.
+fn numbered(folder: &Path) -> Result<(Vec<PathBuf>, Vec<String>), Failure> {
     let [roster, ..] = in_folder(folder, FILES, INSTEAD).map_err(|mut failure| {
+        if folder.join(FILES[0]).exists() {
+            failure.messages.push("a run takes two submissions at least, 1 and 2".into());
+        }
         failure.messages.extend(hints::other_folder(folder, &audit::FILES, "audit"));
         failure
     })?;
     let failure = |message: String| Failure { status: Status::Unreadable, messages: vec![message] };
     let told = |error: io::Error| failure(format!("the folder {}", unreadable(folder, &error)));
-    let entries = folder.read_dir().map_err(told)?;
-    let mut numbers: Vec<usize> =
-        entries.filter_map(|entry| submission_number(entry.ok()?.file_name().to_str()?)).collect();
+    let (mut numbers, mut passed_by) = (Vec::new(), Vec::new());
+    for entry in folder.read_dir().map_err(told)? {
+        let name = entry.map_err(told)?.file_name();
+        let name = name.to_string_lossy();
+        match submission_number(&name) {
+            Some(number) => numbers.push(number),
+            None if name.starts_with(|c: char| c.is_ascii_digit()) => {
+                passed_by.push(format!("{name:?}"))
+            }
+            None => {}
+        }
+    }
     numbers.sort_unstable();
+    passed_by.sort_unstable();
     match (1..).zip(&numbers).find(|(place, number)| place != *number) {
         Some((place, number)) => Err(failure(format!(
             "the folder {folder:?} has a file {number}, and no file {place}: name the submissions \
@@ -106,7 +122,7 @@ fn numbered(folder: &Path) -> Result<Vec<PathBuf>, Failure> {
         ))),
         None => {
             let submissions = numbers.iter().map(|number| folder.join(number.to_string()));
-            Ok([roster].into_iter().chain(submissions).collect())
+            Ok(([roster].into_iter().chain(submissions).collect(), passed_by))
         }
     }
 }
@@ -115,6 +131,15 @@ fn numbered(folder: &Path) -> Result<Vec<PathBuf>, Failure> {
 fn submission_number(name: &str) -> Option<usize> {
     let number = name.parse().ok().filter(|number| (1..=HIGHEST).contains(number))?;
     (number.to_string() == name).then_some(number)
+}
+
+/// The hint that a folder has more, which may have been meant as submissions.
+fn passed_by(files: &Files) -> impl Iterator<Item = String> {
+    let told = format!(
+        "the folder also has {}, which the run passes by: submissions are named 1, 2 and so on",
+        list(&files.passed_by, "and")
+    );
+    (!files.passed_by.is_empty()).then_some(told).into_iter()
 }
 
 /// The answer where the whole run was refused.
@@ -137,7 +162,7 @@ fn refusal(files: &Files, refused: &DistrictRefused) -> Answer {
         members: members(files, number, None),
         remarks: vec![remark],
         refused: vec![RefusedFile { told, why }],
-        hints: hints::refused_district(&files.read, refused),
+        hints: passed_by(files).chain(hints::refused_district(&files.read, refused)).collect(),
     }
 }
 
@@ -187,7 +212,7 @@ fn made(files: &Files, found: &District) -> Answer {
         members: members(files, 0, Some(found)),
         remarks,
         refused,
-        hints: hints::district(&files.read, found),
+        hints: passed_by(files).chain(hints::district(&files.read, found)).collect(),
     }
 }
 
@@ -195,6 +220,11 @@ fn made(files: &Files, found: &District) -> Answer {
 fn accepted(found: &District) -> Vec<usize> {
     let numbered = (1..).zip(&found.refusals);
     numbered.filter(|(_, refusal)| refusal.is_none()).map(|(position, _)| position).collect()
+}
+
+/// Positions in a row.
+fn positions(positions: &[usize]) -> String {
+    list(&positions.iter().map(usize::to_string).collect::<Vec<_>>(), "and")
 }
 
 fn run_remark(line: &str, found: &District) -> Remark {
@@ -206,7 +236,7 @@ fn run_remark(line: &str, found: &District) -> Remark {
     Remark {
         line: line.into(),
         meaning: format!(
-            "The roster is right, and {} submissions were judged, each by itself. {compared}",
+            "The roster was accepted, and {} submissions were judged, each by itself. {compared}",
             found.refusals.len()
         ),
         advice: "Read the other lines: they say what was found.".into(),
@@ -272,7 +302,11 @@ fn fork_remark(line: &str, files: &Files, found: &District) -> Remark {
         ),
         None => (
             "No two of the accepted submissions committed different records at one index.".into(),
-            "Nothing.".into(),
+            if accepted == found.refusals.len() {
+                "Nothing.".into()
+            } else {
+                "Run again when what was refused is mended: what it shows is missing.".into()
+            },
         ),
     };
     if found.named.is_empty() && accepted >= 2 {
@@ -287,19 +321,16 @@ fn board_remark(line: &str, replica: usize, files: &Files, found: &District) -> 
     let which = match (found.fork, &accepted[..]) {
         (_, &[lower, higher]) => format!("audit the two: {}", audit_line(files, lower, higher)),
         (Some((lower, higher)), _) => format!(
-            "audit the two that part first: {}. If board {replica} is not named there, audit the \
-             other pairs of accepted submissions in the same way",
-            audit_line(files, lower, higher)
+            "audit the two that part first: {}. If board {replica} is not named there, audit \
+             every other two of the accepted submissions {} in the same way",
+            audit_line(files, lower, higher),
+            positions(&accepted)
         ),
-        (None, positions) => {
-            let told: Vec<String> = positions.iter().map(usize::to_string).collect();
-            let (lower, higher) = (positions[0], positions[1]);
-            format!(
-                "audit every two of the accepted submissions {}, beginning with {}",
-                list(&told, "and"),
-                audit_line(files, lower, higher)
-            )
-        }
+        (None, accepted) => format!(
+            "audit every two of the accepted submissions {}, beginning with {}",
+            positions(accepted),
+            audit_line(files, accepted[0], accepted[1])
+        ),
     };
     Remark {
         line: line.into(),
@@ -356,17 +387,17 @@ mod tests {
     #[test]
     fn named_without_a_fork() {
         let paths = ["r", "-a", "x", "b c", "d"].map(PathBuf::from).to_vec();
-        let files = Files { paths, read: Vec::new() };
+        let files = Files { paths, read: Vec::new(), passed_by: Vec::new() };
         let refusals = vec![None, Some(Refusal::Size), None, None];
         let mut found = District { refusals, named: vec![2], fork: None };
         let remark = board_remark("board 2", 2, &files, &found);
         let told = "For the rule that it broke, and the term, audit every two of the accepted \
-            submissions 1, 3 and 4, beginning with `hirelog audit -- r -a \"b c\"`.";
+            submissions 1, 3 and 4, beginning with `hirelog audit -- r -a 'b c'`.";
         assert!(remark.advice.ends_with(told), "{}", remark.advice);
-        assert!(fork_remark("fork 0 0", &files, &found).advice.ends_with("Nothing."));
+        assert!(fork_remark("fork 0 0", &files, &found).advice.starts_with("Run again when"));
         found.refusals[0] = Some(Refusal::Size);
         let remark = board_remark("board 2", 2, &files, &found);
-        let told = "the term, audit the two: `hirelog audit r \"b c\" d`.";
+        let told = "the term, audit the two: `hirelog audit r 'b c' d`.";
         assert!(remark.advice.ends_with(told), "{}", remark.advice);
     }
 

@@ -54,8 +54,13 @@ pub fn district(files: &[Input], found: &District) -> Vec<String> {
     let mut hints = places(files, false);
     let bad = refused_with(Refusal::Signature);
     let differ = bad.iter().any(|file| file.bytes != bad[0].bytes);
-    if bad.len() == submissions.len() && differ {
-        hints.push(format!("all submissions fail: look at the roster {} first", roster.name()));
+    let signed = submissions.iter().filter(|file| file.bytes.len() > SUBMISSION_MIN).count();
+    if bad.len() == signed && differ {
+        let which = if signed == submissions.len() { "" } else { " that are no empty log" };
+        hints.push(format!(
+            "all submissions{which} fail: look at the roster {} first",
+            roster.name()
+        ));
     }
     let mut strangers = refused_with(Refusal::Cluster);
     if strangers.len() == submissions.len() && one_name(&strangers) {
@@ -115,12 +120,11 @@ fn misplaced(roster: &Input, submissions: &[Input]) -> Vec<String> {
             format!("{} looks like a submission, and the roster belongs there", roster.name());
         return if looks_like_submission(&roster.bytes) { vec![told] } else { Vec::new() };
     };
-    vec![format!(
-        "{} looks like a roster, and {} does not: they seem to be exchanged, so give them in each \
-         other's place",
-        found.name(),
-        roster.name()
-    )]
+    let told = format!("{} looks like a roster, and {} does not", found.name(), roster.name());
+    vec![match submissions.len() {
+        ..=2 => format!("{told}: they seem to be exchanged, so give them in each other's place"),
+        _ => format!("{told}: name the roster first, and then the submissions in their order"),
+    }]
 }
 
 /// A roster whose size does not go with the replicas that it says it has.
@@ -211,7 +215,7 @@ pub fn same_bytes(submissions: &[Input]) -> Vec<String> {
     let first = |place: &usize| {
         let bytes = &submissions[*place].bytes;
         let told = submissions[..*place].iter().any(|before| before.bytes == *bytes);
-        !told && bytes.len() > SUBMISSION_MIN
+        !told && bytes.len() > SUBMISSION_MIN && !submissions[*place].is_long()
     };
     let groups = (0..submissions.len()).filter(first).map(alike).filter(|names| names.len() > 1);
     let told = |names: Vec<String>| {

@@ -119,14 +119,24 @@ fn option_first(arguments: &[OsString]) -> Failure {
     wrong_usage(why, "hirelog")
 }
 
-/// An argument as it can be typed: in quotes where a shell might take it for something else.
+/// An argument as it can be typed: in single quotes where a shell might take it for something else,
+/// and with escapes where it has bytes that cannot be typed.
 pub fn written(argument: &OsStr) -> String {
     let plain = |byte: &u8| byte.is_ascii_alphanumeric() || b"-_./,:+=@%".contains(byte);
     let bytes = argument.as_encoded_bytes();
-    if !bytes.is_empty() && bytes.iter().all(plain) {
-        argument.to_string_lossy().into()
-    } else {
-        format!("{argument:?}")
+    match argument.to_str() {
+        Some(text) if !bytes.is_empty() && bytes.iter().all(plain) => text.into(),
+        Some(text) if !text.chars().any(char::is_control) => {
+            format!("'{}'", text.replace('\'', r"'\''"))
+        }
+        _ => {
+            let typed = |byte: &u8| match byte {
+                b'\'' | b'\\' => format!("\\{}", *byte as char),
+                b' '..=b'~' => (*byte as char).to_string(),
+                _ => format!("\\x{byte:02x}"),
+            };
+            format!("$'{}'", bytes.iter().map(typed).collect::<String>())
+        }
     }
 }
 
@@ -238,5 +248,29 @@ impl Command {
     fn help_text(&self) -> String {
         let (usage, statuses) = (self.usage("use: "), status_text(self.statuses));
         format!("{usage}\n{}\n{OPTIONS}{statuses}", self.help)
+    }
+}
+
+#[cfg(test)]
+mod tests {
+    use super::*;
+    use std::os::unix::ffi::OsStrExt;
+
+    /// What a shell makes the same argument of, and runs nothing in.
+    #[test]
+    fn arguments_to_type() {
+        let cases: [(&[u8], &str); 8] = [
+            (b"a/b-1.bin", "a/b-1.bin"),
+            (b"", "''"),
+            (b"b c", "'b c'"),
+            (b"$(touch x)", "'$(touch x)'"),
+            (b"`x`$y", "'`x`$y'"),
+            (b"it's", r"'it'\''s'"),
+            (b"a\nb'c", r"$'a\x0ab\'c'"),
+            (b"\xff\\", r"$'\xff\\'"),
+        ];
+        for (argument, typed) in cases {
+            assert_eq!(written(OsStr::from_bytes(argument)), typed);
+        }
     }
 }
