@@ -112,8 +112,8 @@ pub fn district(roster: &[u8], submissions: &[&[u8]]) -> Result<District, Distri
 }
 
 /// The run as C has it: the submissions end to end in the buffer, with their lengths. With number 0
-/// the report's bytes are in the buffer's first ones, 4 more than there are lengths. With any other
-/// nothing is written.
+/// the first bytes of `report` are written, 4 more than there are lengths. With any other nothing is
+/// written.
 pub fn district_into(roster: &[u8], buffer: &[u8], lengths: &[u32], report: &mut [u8]) -> u32 {
     // SAFETY: each pointer is a slice's, with the slice's length, and so aligned; the report is lent
     // to nobody else.
