@@ -18,133 +18,18 @@
  * 0 if that held, whatever the number; 1 if not; 2 if a file cannot be read.
  */
 #define _GNU_SOURCE
-#include "files.h"
-#include "guarded.h"
-#include "hirelog.h"
+#define TOOL "audit_tool"
 #include "report.h"
+#include "tool.h"
 
-#include <inttypes.h>
-#include <unistd.h>
-
-enum { ROSTER, FIRST, SECOND, INPUTS };
+enum { ROSTER, FIRST, SECOND };
 
 static const char *const file_names[INPUTS] = {"roster", "first", "second"};
 static const char *const input_names[INPUTS] = {"roster", "first submission", "second submission"};
 
-/* The calls, in their order. */
-enum call { AFTER_EACH, BEFORE_EACH, NULLS, CALLS };
-
-static const char *const call_names[CALLS] = {
-    "with an unreadable page right after each buffer",
-    "with an unreadable page right before each buffer",
-    "with NULL for each buffer of no bytes",
-};
-static char under_way[100]; /* the call, for a fault's message */
-
-static struct file inputs[INPUTS], expected;
-static size_t report_len = HIRELOG_REPORT_SIZE;
-
-static struct guarded input_rooms[INPUTS], report_room;
-
-/* What the audit gives: the number, and as many bytes of the report as it has to write. */
-struct answer {
-    uint32_t number;
-    size_t written;
-    uint8_t report[HIRELOG_REPORT_SIZE];
-};
-
-/* ---- what is said */
-
-static _Noreturn void fail(const char *what)
+static struct answer call_library(const uint8_t *const lent[INPUTS], uint8_t *report)
 {
-    printf("audit_tool: FAILED: %s\n%s", what, under_way);
-    fflush(stdout);
-    _exit(1);
-}
-
-static _Noreturn void stop(const char *path, const char *why, const char *hint)
-{
-    fprintf(stderr, "audit_tool: %s: %s; %s\n", path, why, hint);
-    exit(2);
-}
-
-static _Noreturn void guarded_stop(const char *why, const char *hint)
-{
-    stop("the buffers", why, hint);
-}
-
-/* The lines of document 01's program. */
-static void print_lines(const uint8_t *report)
-{
-    printf("refusal %u in %u\n", report[NUMBER_AT], report[PLACE_AT]);
-    printf("fork %" PRIu32 "\n", report_fork(report));
-    for (unsigned k = 1; k <= REPLICAS_MOST; k++)
-        if (report_named(report) >> (k - 1) & 1)
-            printf("board %u rule %u term %" PRIu32 "\n", k, report_rule(report, k),
-                   report_term(report, k));
-}
-
-static void print_answer(uint32_t number, const uint8_t *report)
-{
-    printf("number %" PRIu32 "\nreport ", number);
-    for (size_t i = 0; i < report_len; i++)
-        printf("%02x", report[i]);
-    printf("\n");
-    if (number != HIRELOG_SHORT_REPORT)
-        print_lines(report);
-    fflush(stdout);
-}
-
-/* ---- what must hold */
-
-/* Looks at the number, and at the bytes in and around the report. */
-static void check_report(const struct answer *answer)
-{
-    ptrdiff_t at;
-    char text[120];
-    if ((answer->number == HIRELOG_SHORT_REPORT) != (report_len < HIRELOG_REPORT_SIZE))
-        fail("number 1 for a report that is long enough, or another for one that is not");
-    if (answer->written > 0 && answer->report[NUMBER_AT] != answer->number)
-        fail("the number returned is not the report's");
-    if (guarded_changed(&report_room, answer->written, &at)) {
-        snprintf(text, sizeof text, "byte %td of the report (%zu are the audit's) was written", at,
-                 answer->written);
-        fail(text);
-    }
-}
-
-/*
- * The report must begin with the bytes of the folder's file. What the audit does not write has been
- * looked at: there the file has what compare filled its buffer with.
- */
-static void check_expected(const struct answer *answer)
-{
-    char text[120];
-    for (size_t i = 0; i < expected.len; i++) {
-        if (i >= report_len || (i < answer->written && answer->report[i] != expected.bytes[i])) {
-            snprintf(text, sizeof text, "byte %zu of the report is not that of the file report", i);
-            fail(text);
-        }
-    }
-}
-
-/* ---- a call */
-
-/* Calls the audit so; the report is then in its room. */
-static struct answer call_audit(enum call call)
-{
-    enum guarded_side side = call == BEFORE_EACH ? PAGE_BEFORE : PAGE_AFTER;
-    const uint8_t *lent[INPUTS];
-    for (int i = 0; i < INPUTS; i++) {
-        const uint8_t *copy = guarded_lend(&input_rooms[i], inputs[i].bytes, inputs[i].len, side);
-        lent[i] = call == NULLS && inputs[i].len == 0 ? NULL : copy;
-    }
-    uint8_t *report = guarded_offer(&report_room, report_len, side, 0);
-    if (call == NULLS && report_len == 0)
-        report = NULL;
-
     struct answer answer = {0};
-    snprintf(under_way, sizeof under_way, "  %s\n", call_names[call]);
     answer.number = hirelog_audit(lent[ROSTER], inputs[ROSTER].len, lent[FIRST], inputs[FIRST].len,
                                   lent[SECOND], inputs[SECOND].len, report, report_len);
     if (answer.number != HIRELOG_SHORT_REPORT && report_len >= HIRELOG_REPORT_SIZE) {
@@ -154,81 +39,38 @@ static struct answer call_audit(enum call call)
     return answer;
 }
 
-/* Makes the calls, prints what the first gives, and holds the others to it. */
-static void run_calls(enum call end)
+static void check_answer(const struct answer *answer)
 {
-    struct answer first, again;
-    for (enum call call = AFTER_EACH; call < end; call++) {
-        again = call_audit(call);
-        check_report(&again);
-        if (call == AFTER_EACH) {
-            first = again;
-            print_answer(first.number, report_room.bytes);
-        } else if (again.number != first.number ||
-                   memcmp(again.report, first.report, sizeof first.report) != 0) {
-            fail("another number or report than in the first call");
-        }
-        check_expected(&again);
-    }
+    if ((answer->number == HIRELOG_SHORT_REPORT) != (report_len < HIRELOG_REPORT_SIZE))
+        fail("number 1 for a report that is long enough, or another for one that is not");
+    if (answer->written > 0 && answer->report[NUMBER_AT] != answer->number)
+        fail("the number returned is not the report's");
 }
 
-/* ---- the files */
-
-static void read_length(const char *text, const char *from)
+/* The lines of document 01's program. */
+static void print_lines(const struct answer *answer)
 {
-    char *end;
-    errno = 0;
-    unsigned long long len = strtoull(text, &end, 10);
-    if (errno || end == text || *end > ' ' || *text == '-' || len > 1 << 30)
-        stop(from, "not a report's length", "write a number up to 1073741824");
-    report_len = (size_t)len;
-}
-
-static void read_input(struct file *file, const char *path, const char *hint)
-{
-    int problem = read_file(path, file);
-    if (problem)
-        stop(path, strerror(problem), hint);
-}
-
-/* Reads a file of the folder, if it is there. */
-static int read_optional(const char *folder, const char *name, struct file *file)
-{
-    char path[4096];
-    snprintf(path, sizeof path, "%s/%s", folder, name);
-    int problem = read_file(path, file);
-    if (problem && problem != ENOENT)
-        stop(path, strerror(problem), "make it readable, or take it away");
-    return problem == 0;
-}
-
-static void read_folder(const char *folder)
-{
-    struct file length;
-    char path[4096], text[32];
-    for (int i = 0; i < INPUTS; i++) {
-        snprintf(path, sizeof path, "%s/%s", folder, file_names[i]);
-        read_input(&inputs[i], path, "put a readable file there, an empty one for no bytes");
-    }
-    if (read_optional(folder, "report_length", &length)) {
-        snprintf(text, sizeof text, "%.*s", (int)(length.len < 31 ? length.len : 31), length.bytes);
-        read_length(text, "report_length");
-    }
-    read_optional(folder, "report", &expected);
-}
-
-static void read_files(char *const paths[INPUTS])
-{
-    for (int i = 0; i < INPUTS; i++)
-        read_input(&inputs[i], paths[i], "name a file that can be read, /dev/null for no bytes");
+    const uint8_t *report = answer->report;
+    if (answer->written == 0)
+        return;
+    printf("refusal %u in %u\n", report[NUMBER_AT], report[PLACE_AT]);
+    printf("fork %" PRIu32 "\n", report_fork(report));
+    for (unsigned k = 1; k <= REPLICAS_MOST; k++)
+        if (report_named(report) >> (k - 1) & 1)
+            printf("board %u rule %u term %" PRIu32 "\n", k, report_rule(report, k),
+                   report_term(report, k));
 }
 
 int main(int argc, char **argv)
 {
+    report_len = HIRELOG_REPORT_SIZE;
     if (argc == 2) {
-        read_folder(argv[1]);
+        for (int i = 0; i < INPUTS; i++)
+            read_part(argv[1], file_names[i], &inputs[i]);
+        read_report(argv[1]);
     } else if (argc == 4 || argc == 5) {
-        read_files(argv + 1);
+        for (int i = 0; i < INPUTS; i++)
+            read_input(&inputs[i], argv[1 + i], "name a file that can be read, /dev/null for no bytes");
         if (argc == 5)
             read_length(argv[4], argv[4]);
     } else {
@@ -236,14 +78,6 @@ int main(int argc, char **argv)
                         "       audit_tool FOLDER\n");
         return 2;
     }
-
-    int empty = report_len == 0;
-    for (int i = 0; i < INPUTS; i++) {
-        guarded_make(&input_rooms[i], input_names[i], inputs[i].len);
-        empty |= inputs[i].len == 0;
-    }
-    guarded_make(&report_room, "report", report_len);
-    guarded_watch("audit_tool", under_way);
-    run_calls(empty ? CALLS : NULLS);
+    run_calls(input_names);
     return 0;
 }

@@ -16,7 +16,7 @@ use Rattle.words.proofs.Laws.{length-be}
 use Rattle.words.proofs.Members.{mem-cond}
 use Rattle.words.proofs.Over.{over-next}
 use Rattle.submission.specs.Validate.{validate}
-use Rattle.district_parts.specs.Parts.{parts, sum, addsUp}
+use Rattle.district_parts.specs.Parts.{parts, total, addsUp}
 use Rattle.district_parts.proofs.Parts.{parts-length, sum-next, sum-some, part-next}
 use Rattle.district.specs.District.{entry, acceptedFrom, numberBytes}
 use Rattle.district.proofs.Judged.{numbers-length, numbers-next, entered, accepted-next}
@@ -27,15 +27,15 @@ use Rattle.district_pairs.specs.Entries.{entryOf, partsOf, entriesOf, judged, F
 module _ (roster buffer sizes : List ℕ) (i : ℕ) (inside : i < length sizes) where
   -- the next submission
   unfoldable pub this : List ℕ
-  this = take (getD sizes i 0) (drop (sum (take i sizes)) buffer)
+  this = take (getD sizes i 0) (drop (total (take i sizes)) buffer)
 
   -- those before it
   few : length (take i (parts sizes buffer)) ≡ i
   few = length-take-le i (parts sizes buffer) (omega (arith, parts-length sizes buffer))
 
-  pub room-of : addsUp sizes buffer ≡ true → (start : ℕ) → start ≡ sum (take i sizes) → start + getD sizes i 0 ≤ length buffer
+  pub room-of : addsUp sizes buffer ≡ true → (start : ℕ) → start ≡ total (take i sizes) → start + getD sizes i 0 ≤ length buffer
   unfolding addsUp
-  room-of whole start at = omega (arith, sum-next sizes i inside, sum-some sizes (suc i), eqb-true (sum sizes) (length buffer) whole, at)
+  room-of whole start at = omega (arith, sum-next sizes i inside, sum-some sizes (suc i), eqb-true (total sizes) (length buffer) whole, at)
 
   -- ---- the number
 
@@ -56,7 +56,7 @@ module _ (roster buffer sizes : List ℕ) (i : ℕ) (inside : i < length sizes) 
   entry-judged number start size true e = rw e
   entry-judged number start size false e = rw e
 
-  pub entries-next : (e f : Entries) (number start size : ℕ) → start ≡ sum (take i sizes) → size ≡ getD sizes i 0 → number ≡ validate roster this
+  pub entries-next : (e f : Entries) (number start size : ℕ) → start ≡ total (take i sizes) → size ≡ getD sizes i 0 → number ≡ validate roster this
       → partsOf f ≡ partsOf e ++ judged number i start size → entriesOf buffer e ≡ acceptedFrom roster 1 (take i (parts sizes buffer))
       → entriesOf buffer f ≡ acceptedFrom roster 1 (take (suc i) (parts sizes buffer))
   unfolding entriesOf entered this
@@ -68,7 +68,7 @@ module _ (roster buffer sizes : List ℕ) (i : ℕ) (inside : i < length sizes) 
       ∙ ap (λ k. acceptedFrom roster 1 (take i (parts sizes buffer)) ++ entered roster k this) (sym place)
       ∙ sym (accepted-next roster (take i (parts sizes buffer)) 1 this) ∙ ap (acceptedFrom roster 1) (sym (part-next sizes buffer i inside))
 
-  pub fits-next : addsUp sizes buffer ≡ true → (e f : Entries) (number start size : ℕ) → start ≡ sum (take i sizes) → size ≡ getD sizes i 0
+  pub fits-next : addsUp sizes buffer ≡ true → (e f : Entries) (number start size : ℕ) → start ≡ total (take i sizes) → size ≡ getD sizes i 0
       → number ≡ validate roster this → partsOf f ≡ partsOf e ++ judged number i start size
       → ((p : Part) → List·Memᴰ p (partsOf e) → Fit roster buffer p) → (p : Part) → List·Memᴰ p (partsOf f) → Fit roster buffer p
   unfolding judged entryOf entry this

@@ -2,7 +2,7 @@
 -- Assumes nothing.
 use mathlib.Core.Path.{_≡_, refl, ap}
 use mathlib.Core.Bool.{Bool, cond}
-use mathlib.Core.List.{List, [], _∷_, _++_, flatMap}
+use mathlib.Core.List.{List, [], _∷_, _++_, flatMap, sum}
 use Prim.Native.Nat.{ℕ}
 use borrow.Author.Tests.{eq-eqb, ne-eqb}
 use lib.ListN.{replicate}
@@ -24,7 +24,7 @@ use Rattle.submission.specs.Validate.{sized as sizedSubmission, versioned, name
 use Rattle.forensics.specs.Findings.{fork, says, charges, lowest, rowsFrom, bit, maskOf, findings}
 use Rattle.report.specs.Figures.{sampleKey, sampleRoster, sampleSubmission}
 use Rattle.report.proofs.Premises.{three}
-use Rattle.district_parts.specs.Parts.{parts, counted, sum, addsUp}
+use Rattle.district_parts.specs.Parts.{parts, counted, total, addsUp}
 use Rattle.district.specs.declared.Fork.{Fork}
 use Rattle.district.specs.District.{Entry, entry, acceptedFrom, accepted, Pair, pair, pairs, found, union, firstFork, shown, districtNumber, numberBytes, tailBytes, districtBytes, districtAfter}
 
@@ -38,7 +38,7 @@ unwritten number room = number ∷ replicate room 9
 
 -- two empty logs with a submission of no bytes between them: its own number is 5, nobody is named, no pair forks, and two bytes are kept
 written : ran three (sampleSubmission ++ sampleSubmission) (44 ∷ 0 ∷ 44 ∷ []) 9 ≡ 0 ∷ (0 ∷ 5 ∷ 0 ∷ [] ++ replicate 4 0 ++ (9 ∷ 9 ∷ []))
-unfolding three ran districtNumber districtAfter districtBytes numberBytes tailBytes over first parts counted sum addsUp entry acceptedFrom accepted pair pairs found union firstFork
+unfolding three ran districtNumber districtAfter districtBytes numberBytes tailBytes over first parts counted total sum addsUp entry acceptedFrom accepted pair pairs found union firstFork
     shown sampleKey sampleRoster sampleSubmission findings fork committed committedBy differAt rowsFrom charges says lowest maskOf bit be number numberAt same flatMap all every check
     refusal cluster replicas keyOf treeType oneTimeType everyReplica sized typed single rosterNumber version1 rising name word recordCount leaderCount distance version runs runsAfter
     leads leadsOf slots receiptsOf view laidOut recordSize recordsOf certificates certificatesEnd stampsAt leadersFrom stampsFrom commitFrom commitOf sizedSubmission versioned named
@@ -48,7 +48,7 @@ written = refl
 -- each fault with all those after it: 2 and 4 for the roster, then 17, 18 and 1; a count of 10 and a report a byte short too
 orders : (ran [] (7 ∷ []) [] 0 ≡ unwritten 2 0) × (ran (sampleRoster 3 (1 ∷ 2 ∷ 1 ∷ [])) (7 ∷ []) [] 0 ≡ unwritten 4 0) × (ran three (7 ∷ []) [] 0 ≡ unwritten 17 0)
     × (ran three [] (replicate 10 0) 14 ≡ unwritten 17 14) × (ran three (7 ∷ []) (0 ∷ 0 ∷ []) 0 ≡ unwritten 18 0) × (ran three [] (0 ∷ 0 ∷ []) 5 ≡ unwritten 1 5)
-unfolding three ran unwritten districtNumber districtAfter first counted sum addsUp sampleKey sampleRoster be number numberAt same flatMap all every check refusal cluster replicas
+unfolding three ran unwritten districtNumber districtAfter first counted total sum addsUp sampleKey sampleRoster be number numberAt same flatMap all every check refusal cluster replicas
     keyOf treeType oneTimeType everyReplica sized typed single rosterNumber row height
 orders = (refl, refl, refl, refl, refl, refl)
 

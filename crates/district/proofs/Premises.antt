@@ -3,7 +3,7 @@
 -- Assumes nothing.
 use mathlib.Core.Path.{_≡_, refl}
 use mathlib.Core.Bool.{false}
-use mathlib.Core.List.{List, [], _∷_, _++_, map, flatMap}
+use mathlib.Core.List.{List, [], _∷_, _++_, map, flatMap, sum}
 use Prim.Native.Nat.{ℕ}
 use lib.Dec.{lit<}
 use lib.ListN.{replicate}
@@ -25,7 +25,7 @@ use Rattle.submission.specs.Validate.{sized as sizedSubmission, versioned, name
 use Rattle.report.specs.Claims.{Fair}
 use Rattle.report.specs.Figures.{sampleKey, sampleRoster, sampleSubmission}
 use Rattle.report.proofs.Premises.{three, acts, both, kept, own, apart, a-replica, tested}
-use Rattle.district_parts.specs.Parts.{parts, counted, sum, addsUp}
+use Rattle.district_parts.specs.Parts.{parts, counted, total, addsUp}
 use Rattle.district.specs.District.{entry, acceptedFrom, accepted, districtNumber, districtAfter, namedAmong}
 use Rattle.district.specs.Claims.{DistrictFairness}
 use Rattle.district.proofs.Demand3.{district-fairness}
@@ -41,7 +41,7 @@ room = replicate 7 0
 
 -- the run has number 0
 accepted-run : districtNumber three buffer sizes room ≡ 0
-unfolding three buffer sizes room districtNumber first counted sum addsUp sampleKey sampleRoster sampleSubmission be number numberAt same flatMap all every check refusal cluster replicas
+unfolding three buffer sizes room districtNumber first counted total sum addsUp sampleKey sampleRoster sampleSubmission be number numberAt same flatMap all every check refusal cluster replicas
     keyOf treeType oneTimeType everyReplica sized typed single rosterNumber row height
 accepted-run = refl
 

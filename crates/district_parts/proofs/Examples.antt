@@ -2,10 +2,10 @@
 -- Assumes nothing.
 use mathlib.Core.Path.{_≡_, refl}
 use mathlib.Core.Bool.{true, false}
-use mathlib.Core.List.{[], _∷_}
+use mathlib.Core.List.{[], _∷_, sum}
 use lib.ListN.{replicate}
 use Rattle.refusal.specs.Checks.{all}
-use Rattle.district_parts.specs.Parts.{parts, counted, sum, addsUp}
+use Rattle.district_parts.specs.Parts.{parts, counted, total, addsUp}
 
 cut : parts (2 ∷ 0 ∷ 1 ∷ []) (7 ∷ 8 ∷ 9 ∷ []) ≡ (7 ∷ 8 ∷ []) ∷ [] ∷ (9 ∷ []) ∷ []
 unfolding parts
@@ -18,5 +18,5 @@ counts = (refl, refl, refl, refl, refl)
 
 sums : (addsUp (2 ∷ 0 ∷ 1 ∷ []) (7 ∷ 8 ∷ 9 ∷ []) ≡ true) × (addsUp (1 ∷ 1 ∷ []) (7 ∷ 8 ∷ 9 ∷ []) ≡ false) × (addsUp (3 ∷ 1 ∷ []) (7 ∷ 8 ∷ 9 ∷ []) ≡ false)
     × (addsUp (3 ∷ 4294967295 ∷ 1 ∷ []) (7 ∷ 8 ∷ 9 ∷ []) ≡ false)
-unfolding addsUp sum
+unfolding addsUp total sum
 sums = (refl, refl, refl, refl)

@@ -1,7 +1,7 @@
 -- The submissions of a district in one buffer (document 02, W1: "up to nine submissions of a district, end
 -- to end in one buffer, with a list of u32 lengths").
 use mathlib.Core.Bool.{Bool}
-use mathlib.Core.List.{List, [], _∷_}
+use mathlib.Core.List.{List, [], _∷_, sum}
 use Prim.Native.Nat.{ℕ, _+_}
 use lib.Dec.{eqb, leb}
 use lib.ListN.{length, take, drop}
@@ -23,9 +23,8 @@ unfoldable pub counted : List ℕ → Bool
 counted lengths = all (leb countLeast (length lengths) ∷ leb (length lengths) countMost ∷ [])
 
 -- 18: "the lengths do not add up to the buffer", as whole numbers
-unfoldable pub sum : List ℕ → ℕ
-sum [] = 0
-sum (size ∷ sizes) = size + sum sizes
+unfoldable pub total : List ℕ → ℕ
+total lengths = sum _+_ 0 lengths
 
 unfoldable pub addsUp : List ℕ → List ℕ → Bool
-addsUp lengths buffer = eqb (sum lengths) (length buffer)
+addsUp lengths buffer = eqb (total lengths) (length buffer)

@@ -1,6 +1,7 @@
 //! hirelog audit: its lines, its explanations and its JSON, for each sample and each number.
 
-use crate::json::{self, Value};
+use crate::asked::{wrong_rosters, Asked};
+use crate::json::Value;
 use crate::*;
 use hirelog::numbers::{Number, NUMBERS};
 
@@ -20,61 +21,19 @@ fn lines_of(object: &Value) -> String {
 fn expect(files: &[PathBuf; 3], lines: &str, status: i32) -> Run {
     let plain = with_options("audit", &[], files);
     assert_eq!((plain.out.as_str(), plain.status), (lines, status), "{plain:?}");
-    let object = json_of(files, &plain);
-    assert_eq!(lines_of(&object), lines);
-    let number = Number::of(object.get("number").number() as u32).expect("a row");
-    assert_eq!(object.get("word").text(), number.word);
-
-    let explained = with_options("audit", &["--explain"], files);
-    assert_eq!(explained.status, status);
-    explained.shortens(&plain);
-    assert!(explained.out.starts_with(&format!("{lines}\nWhat ")), "{explained:?}");
-    assert!(explained.out.lines().all(|line| line.chars().count() <= 80 || line.contains('/')));
-    let mut after = explained.out[lines.len()..].lines();
-    let like_a_line =
-        |line: &str| ["refusal", "fork", "board"].iter().any(|word| line.starts_with(word));
-    assert!(!after.any(like_a_line), "{explained:?}");
-    let text = explained.unfolded();
-    for line in lines.lines() {
-        assert!(text.contains(&format!("What \"{line}\" says: ")), "{line}: {text}");
-    }
-    assert_eq!(text.matches("\nWhat to do: ").count(), lines.lines().count());
-    assert!(text.contains(number.meaning) && text.contains(number.advice), "{text}");
-    for hint in object.get("hints").list() {
-        assert!(text.contains(&format!("Hint: {}.", hint.text())), "{text}");
-        assert!(plain.err.contains(hint.text()), "{plain:?}");
-    }
-    plain
-}
-
-/// The object of an audit; with --explain it has the explanations too, and all else is the same.
-fn json_of(files: &[PathBuf; 3], plain: &Run) -> Value {
-    let [short, long] = [&["--json"][..], &["--json", "--explain"]].map(|options| {
-        let run = with_options("audit", options, files);
-        assert_eq!(run.status, plain.status);
-        if options.len() == 1 {
-            assert_eq!(run.err, plain.err);
-        } else {
-            run.shortens(plain);
-        }
-        json::read(&run.out)
-    });
+    let refused = usize::from(status == 2);
+    let asked = Asked { command: "audit", files, plain: &plain, refused };
     let names = ["command", "number", "word", "place", "fork", "named", "files", "hints"];
-    assert_eq!(short.names(), names);
-    for name in names {
-        assert_eq!(long.get(name), short.get(name));
-    }
-    assert_eq!(short.get("command").text(), "audit");
-    assert_eq!(short.get("files").names(), ["roster", "first", "second"]);
+    let object = asked.object(&names);
+    assert_eq!(lines_of(&object), lines);
+    assert_eq!(object.get("files").names(), ["roster", "first", "second"]);
     for (name, file) in ["roster", "first", "second"].into_iter().zip(files) {
-        assert_eq!(short.get("files").get(name).text(), file.to_string_lossy());
+        assert_eq!(object.get("files").get(name).text(), file.to_string_lossy());
     }
-    let explanation = long.get("explanation").list();
-    let lines: String =
-        explanation.iter().map(|remark| remark.get("line").text().to_string() + "\n").collect();
-    assert_eq!(lines, plain.out);
-    assert!(explanation.iter().all(|remark| remark.names() == ["line", "meaning", "advice"]));
-    short
+    let text = asked.explanation(&object);
+    let number = Number::of(object.get("number").number() as u32).expect("a row");
+    assert!(text.contains(number.meaning) && text.contains(number.advice), "{text}");
+    plain
 }
 
 /// Each sample gives its lines, by its folder and by its files.
@@ -137,13 +96,8 @@ fn submission_numbers() {
 fn roster_numbers() {
     let folder = Folder::new("roster_numbers");
     let [roster, first, second] = sample("one_leader");
-    let bytes = fs::read(&roster).expect("a roster");
-    let mut other_type = bytes.clone();
-    other_type[18 + 7] = 3;
-    let mut twins = bytes.clone();
-    twins.copy_within(18..18 + 56, 18 + 56);
-    for (number, bytes) in [(2, &bytes[1..]), (3, &other_type[..]), (4, &twins)] {
-        let roster = folder.put("roster", bytes);
+    for (number, bytes) in wrong_rosters(&fs::read(&roster).expect("a roster")) {
+        let roster = folder.put("roster", &bytes);
         let word = NUMBERS[number].word;
         assert!(NUMBERS[number].advice.to_lowercase().contains("copy it again from where it came"));
         let run = expect(

@@ -1,6 +1,7 @@
 //! hirelog district: its lines, its explanations and its JSON, for the sample and for each number.
 
-use crate::json::{self, Value};
+use crate::asked::{wrong_rosters, Asked};
+use crate::json::Value;
 use crate::*;
 use hirelog::numbers::Number;
 
@@ -36,59 +37,12 @@ fn refused(lines: &str) -> usize {
 fn expect<F: AsRef<OsStr>>(files: &[F], lines: &str, status: i32) -> Run {
     let plain = with_options("district", &[], files);
     assert_eq!((plain.out.as_str(), plain.status), (lines, status), "{plain:?}");
-    let object = json_of(files, &plain);
-    assert_eq!(lines_of(&object), lines);
-
-    let explained = with_options("district", &["--explain"], files);
-    assert_eq!(explained.status, status);
-    explained.shortens_each(&plain, refused(lines));
-    assert!(explained.out.starts_with(&format!("{lines}\nWhat ")), "{explained:?}");
-    assert!(explained.out.lines().all(|line| line.chars().count() <= 80 || line.contains('/')));
-    let mut after = explained.out[lines.len()..].lines();
-    let words = ["refusal", "submission", "fork", "board"];
-    let like_a_line = |line: &str| words.iter().any(|word| line.starts_with(word));
-    assert!(!after.any(like_a_line), "{explained:?}");
-    let text = explained.unfolded();
-    for line in lines.lines() {
-        assert!(text.contains(&format!("What \"{line}\" says: ")), "{line}: {text}");
-        let number = line.rsplit(' ').next().expect("a number").parse().expect("a number");
-        if refused(line) == 1 {
-            let row = Number::of(number).expect("a row");
-            assert!(text.contains(row.meaning) && text.contains(row.advice), "{text}");
-            assert!(plain.err.contains(&format!(": number {number}, {}. ", row.word)), "{plain:?}");
-            assert!(plain.err.contains(row.meaning), "{plain:?}");
-        }
-    }
-    assert_eq!(text.matches("\nWhat to do: ").count(), lines.lines().count());
-    for hint in object.get("hints").list() {
-        assert!(text.contains(&format!("Hint: {}.", hint.text())), "{text}");
-        assert!(plain.err.contains(hint.text()), "{plain:?}");
-    }
-    plain
-}
-
-/// The object of a run; with --explain it has the explanations too, and all else is the same.
-fn json_of<F: AsRef<OsStr>>(files: &[F], plain: &Run) -> Value {
-    let [short, long] = [&["--json"][..], &["--json", "--explain"]].map(|options| {
-        let run = with_options("district", options, files);
-        assert_eq!(run.status, plain.status);
-        if options.len() == 1 {
-            assert_eq!(run.err, plain.err);
-        } else {
-            run.shortens_each(plain, refused(&plain.out));
-        }
-        json::read(&run.out)
-    });
+    let asked = Asked { command: "district", files, plain: &plain, refused: refused(lines) };
     let names = ["command", "number", "word", "submissions", "fork", "named", "files", "hints"];
-    assert_eq!(short.names(), names);
-    for name in names {
-        assert_eq!(long.get(name), short.get(name));
-    }
-    assert_eq!(short.get("command").text(), "district");
-    let number = Number::of(short.get("number").number() as u32).expect("a row");
-    assert_eq!(short.get("word").text(), number.word);
-    assert_eq!(short.get("fork").list().len(), 2);
-    let named = short.get("files");
+    let object = asked.object(&names);
+    assert_eq!(lines_of(&object), lines);
+    assert_eq!(object.get("fork").list().len(), 2);
+    let named = object.get("files");
     assert_eq!(named.names(), ["roster", "submissions"]);
     if files.len() > 1 {
         let given: Vec<String> =
@@ -97,11 +51,15 @@ fn json_of<F: AsRef<OsStr>>(files: &[F], plain: &Run) -> Value {
         let told: Vec<&str> = [named.get("roster").text()].into_iter().chain(submissions).collect();
         assert_eq!(told, given);
     }
-    let explanation = long.get("explanation").list();
-    let lines: String =
-        explanation.iter().map(|remark| remark.get("line").text().to_string() + "\n").collect();
-    assert_eq!(lines, plain.out);
-    short
+    let text = asked.explanation(&object);
+    for line in lines.lines().filter(|line| refused(line) == 1) {
+        let number = line.rsplit(' ').next().expect("a number").parse().expect("a number");
+        let row = Number::of(number).expect("a row");
+        assert!(text.contains(row.meaning) && text.contains(row.advice), "{text}");
+        assert!(plain.err.contains(&format!(": number {number}, {}. ", row.word)), "{plain:?}");
+        assert!(plain.err.contains(row.meaning), "{plain:?}");
+    }
+    plain
 }
 
 /// What a run is explained by.
@@ -251,12 +209,8 @@ fn roster_numbers() {
     let folder = Folder::new("district_roster_numbers");
     let [roster, first, second] = sample("one_leader");
     let bytes = fs::read(&roster).expect("a roster");
-    let mut other_type = bytes.clone();
-    other_type[18 + 7] = 3;
-    let mut twins = bytes.clone();
-    twins.copy_within(18..18 + 56, 18 + 56);
-    for (number, bytes) in [(2, &bytes[1..]), (3, &other_type[..]), (4, &twins)] {
-        let roster = folder.put("roster", bytes);
+    for (number, wrong) in wrong_rosters(&bytes) {
+        let roster = folder.put("roster", &wrong);
         for count in [1, 2, 9, 10] {
             let mut files = vec![roster.clone()];
             files.extend([&first, &second].into_iter().cycle().take(count).cloned());

@@ -1,6 +1,7 @@
 //! The command hirelog, run on the samples, on files that are wrong in every way, and with wrong
 //! uses.
 
+mod asked;
 mod audit;
 mod check;
 mod digest;

@@ -1,7 +1,7 @@
 -- One submission after the other: what has been judged is the first i, and where the next begins is what their lengths add up to.
 -- Assumes nothing.
 use mathlib.Core.Path.{_≡_, refl, sym, ap, _∙_}
-use mathlib.Core.List.{map, flatMap, List·Memᴰ, List·Memᴰ·not-nil}
+use mathlib.Core.List.{map, flatMap, List·Memᴰ, List·Memᴰ·not-nil, sum}
 use Prim.Native.Nat.{ℕ, suc, _+_, _-_, _≤_, _<_}
 use native.Mathlib.Omega.{arith}
 use borrow.Author.Needs.{needs}
@@ -10,7 +10,7 @@ use lib.Seq.{take-all, sets, length-sets}
 use Rattle.words.specs.BigEndian.{be}
 use Rattle.words.specs.Over.{over}
 use Rattle.submission.specs.Validate.{validate}
-use Rattle.district_parts.specs.Parts.{parts, sum, countMost}
+use Rattle.district_parts.specs.Parts.{parts, total, countMost}
 use Rattle.district_parts.proofs.Parts.{parts-length, sum-next, counted-most}
 use Rattle.district.specs.District.{acceptedFrom, accepted, numberBytes}
 use Rattle.district_pairs.specs.declared.Part.{Part}
@@ -22,7 +22,7 @@ use Rattle.audit_district.proofs.judge.Tie as tie
 
 abbrev Inv-loop : tie.InvT-loop
 Inv-loop roster buffer lengths report₀ entries₀ at₀ i₀ report entries at i =
-    (i ≤ length lengths) × (at ≡ sum (take i lengths)) × (length report ≡ length report₀)
+    (i ≤ length lengths) × (at ≡ total (take i lengths)) × (length report ≡ length report₀)
     × (report ≡ over (numberBytes roster (take i (parts lengths buffer))) report₀)
     × (entriesOf buffer entries ≡ acceptedFrom roster 1 (take i (parts lengths buffer)))
     × Room i entries × ((p : Part) → List·Memᴰ p (partsOf entries) → Fit roster buffer p)
@@ -31,7 +31,7 @@ abbrev μ-loop : tie.MeasureT-loop
 μ-loop roster buffer lengths report₀ entries₀ at₀ i₀ report entries at i = length lengths - i
 
 loop-holds : tie.Need-loop-holds Inv-loop μ-loop
-unfolding over numberBytes flatMap acceptedFrom entriesOf sum
+unfolding over numberBytes flatMap acceptedFrom entriesOf total sum
 loop-holds c =
     let none = c .no-entries .ensures .0 in (
       omega arith,
@@ -101,7 +101,7 @@ loop-again c =
     let bytes : put .last .0 ≡ over (numberBytes R (take (suc (l .i)) (parts L B))) (a .report .now) =
     put .ensures ∙ (λ k. sets (l .inv .3 k) (l .i) (be 1 (number k))) ∙ number-put R B L (l .i) inside (a .report .now) (start .pre .3) in (
       omega arith,
-      ap (λ (k : ℕ). k + size) (l .inv .1) ∙ sym (sum-next L (l .i) inside) ∙ ap (λ (k : ℕ). sum (take k L)) (sym next),
+      ap (λ (k : ℕ). k + size) (l .inv .1) ∙ sym (sum-next L (l .i) inside) ∙ ap (λ (k : ℕ). total (take k L)) (sym next),
       ap length (put .ensures) ∙ length-sets (l .report) (l .i) (be 1 (judged .number .result)) ∙ l .inv .2,
       bytes ∙ ap (λ (k : ℕ). over (numberBytes R (take k (parts L B))) (a .report .now)) (sym next),
       entries-next R B L (l .i) inside (l .entries) (c .with-judged .result) (judged .number .result) (l .at) size (l .inv .1) refl number

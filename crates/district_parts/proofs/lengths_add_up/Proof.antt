@@ -6,13 +6,13 @@ use native.Mathlib.Omega.{arith}
 use borrow.Author.Needs.{needs}
 use lib.Dec.{eqb}
 use lib.ListN.{length, drop}
-use Rattle.district_parts.specs.Parts.{sum, addsUp}
+use Rattle.district_parts.specs.Parts.{total, addsUp}
 use Rattle.district_parts.proofs.Sums.{too-long, taken, all-taken}
 use Rattle.district_parts.proofs.lengths_add_up.Statement.{statement}
 use Rattle.district_parts.proofs.lengths_add_up.Tie as tie
 
 abbrev Inv-loop : tie.InvT-loop
-Inv-loop lengths buffer left₀ i₀ left i = (i ≤ length lengths) × (eqb (sum (drop i lengths)) left ≡ addsUp lengths buffer)
+Inv-loop lengths buffer left₀ i₀ left i = (i ≤ length lengths) × (eqb (total (drop i lengths)) left ≡ addsUp lengths buffer)
 
 abbrev μ-loop : tie.MeasureT-loop
 μ-loop lengths buffer left₀ i₀ left i = length lengths - i
