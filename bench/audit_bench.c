@@ -121,7 +121,6 @@ static int read_part(struct file *file, const char *folder, const char *name)
 /* The submissions 1, 2, .. as far as they go, one by one and end to end. */
 static void read_district(struct work *work)
 {
-    struct file *joined = &work->joined;
     char name[2] = "1";
     for (size_t i = 0; i < SUBMISSIONS_MOST; i++, name[0]++) {
         struct file *file = &work->submissions[i];
@@ -129,11 +128,8 @@ static void read_district(struct work *work)
             break;
         work->submission_count++;
         work->lengths[i] = (uint32_t)file->len;
-        joined->bytes = realloc(joined->bytes, joined->len + file->len);
-        if (!joined->bytes)
+        if (append(&work->joined, file->bytes, file->len))
             stop("no memory for ", work->folder);
-        memcpy(joined->bytes + joined->len, file->bytes, file->len);
-        joined->len += file->len;
     }
 }
 

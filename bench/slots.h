@@ -2,9 +2,9 @@
 #ifndef SLOTS_H
 #define SLOTS_H
 
-#include "big_endian.h"
 #include "files.h"
 #include "portable_sha256.h"
+#include "submission.h"
 
 enum { SLOTS_MOST = 64 * 10 + 9, STATEMENT_MOST = 63, KEY_SIZE = 56 };
 
@@ -30,9 +30,9 @@ static inline void take_slot(struct slot_reader *reader, unsigned replica, uint8
     slot->signature = reader->at;
     slot->signature_len = reader->signature_len;
     slot->statement[0] = kind;
-    memcpy(slot->statement + 1, reader->roster, 16);
-    memcpy(slot->statement + 17, fields, len);
-    slot->statement_len = 17 + len;
+    memcpy(slot->statement + 1, reader->roster, NAME_SIZE);
+    memcpy(slot->statement + 1 + NAME_SIZE, fields, len);
+    slot->statement_len = 1 + NAME_SIZE + len;
     reader->at += reader->signature_len;
 }
 
@@ -49,20 +49,19 @@ static inline void take_signers(struct slot_reader *reader, unsigned signers, ui
 static inline void position(uint8_t fields[40], const uint8_t *records, const uint8_t *pointers,
                             uint32_t index)
 {
-    memcpy(fields, records + 36 * (index - 1), 4);
+    memcpy(fields, records + RECORD_SIZE * (index - 1), 4);
     write_u32(fields + 4, index);
-    memcpy(fields + 8, pointers + 32 * index, 32);
+    memcpy(fields + 8, pointers + POINTER_SIZE * index, POINTER_SIZE);
 }
 
-/* Pointers 0 to count, 32 bytes each. */
+/* Pointers 0 to count, one after the other. */
 static inline uint8_t *make_pointers(const uint8_t *records, uint32_t count)
 {
-    uint8_t *pointers = calloc(count + 1, 32), string[72];
+    uint8_t *pointers = calloc(count + 1, POINTER_SIZE), string[CHAIN_STRING_SIZE];
     for (uint32_t i = 1; pointers && i <= count; i++) {
-        write_u32(string, i);
-        memcpy(string + 4, records + 36 * (i - 1), 36);
-        memcpy(string + 40, pointers + 32 * (i - 1), 32);
-        portable_sha256(string, sizeof string, pointers + 32 * i);
+        write_chain_string(string, i, records + RECORD_SIZE * (i - 1),
+                           pointers + POINTER_SIZE * (i - 1));
+        portable_sha256(string, sizeof string, pointers + POINTER_SIZE * i);
     }
     return pointers;
 }
@@ -71,9 +70,9 @@ static inline uint8_t *make_pointers(const uint8_t *records, uint32_t count)
 static inline size_t read_slots(const struct file *roster, const struct file *submission,
                                 struct slot *slots)
 {
-    const uint8_t *records = submission->bytes, *trailer = records + submission->len - 44;
-    uint32_t count = read_u32(trailer + 16), leaders = read_u32(trailer + 20);
-    struct slot_reader reader = {roster->bytes, records + 36 * count,
+    const uint8_t *records = submission->bytes, *trailer = records + submission->len - TRAILER_SIZE;
+    uint32_t count = read_u32(trailer + RECORDS_AT), leaders = read_u32(trailer + LEADERS_AT);
+    struct slot_reader reader = {roster->bytes, records + RECORD_SIZE * count,
                                  1132 + 160 * (read_u32(roster->bytes + 18) - 4), 0, slots};
     uint8_t *pointers = make_pointers(records, count), fields[40], candidates[64];
     if (!pointers)
@@ -85,13 +84,13 @@ static inline size_t read_slots(const struct file *roster, const struct file *su
         take_signers(&reader, read_u16(vote + 46), 3, vote, 46);
     }
     for (uint32_t i = 1, leader = 0; i <= count; i++) {
-        const uint8_t *record = records + 36 * (i - 1);
-        if (i < count && read_u32(record) == read_u32(record + 36))
+        const uint8_t *record = records + RECORD_SIZE * (i - 1);
+        if (i < count && read_u32(record) == read_u32(record + RECORD_SIZE))
             continue;
         position(fields, records, pointers, i);
         take_slot(&reader, candidates[leader++], 1, fields, sizeof fields);
     }
-    if (read_u32(trailer + 36) != 0) {
+    if (read_u32(trailer + COMMIT_AT) != 0) {
         const uint8_t *commit = reader.at;
         position(fields, records, pointers, read_u32(commit));
         reader.at += 6;

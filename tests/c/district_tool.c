@@ -89,14 +89,11 @@ static void check_fields(const uint8_t *report)
 
 static void check_answer(const struct answer *answer)
 {
-    char text[120];
     int roster_refused =
         answer->number >= HIRELOG_ROSTER_SIZE && answer->number <= HIRELOG_DUPLICATE_KEY;
-    if (!roster_refused && answer->number != number_of_lengths()) {
-        snprintf(text, sizeof text, "number %" PRIu32 ", and not that of the lengths, %" PRIu32,
-                 answer->number, number_of_lengths());
-        fail(text);
-    }
+    if (!roster_refused && answer->number != number_of_lengths())
+        fail("number %" PRIu32 ", and not that of the lengths, %" PRIu32, answer->number,
+             number_of_lengths());
     if (answer->written > 0)
         check_fields(answer->report);
 }
@@ -118,26 +115,15 @@ static void print_lines(const struct answer *answer)
 
 /* ---- the files */
 
-/* The bytes of one file after those of another. */
-static void append(struct file *to, const void *bytes, size_t len)
-{
-    if (len == 0)
-        return;
-    to->bytes = realloc(to->bytes, to->len + len);
-    if (!to->bytes)
-        stop("the buffers", "no memory", "free some");
-    memcpy(to->bytes + to->len, bytes, len);
-    to->len += len;
-}
-
 /* Puts a submission after the others. */
 static void take_submission(const struct file *submission, const char *path)
 {
     uint32_t length = (uint32_t)submission->len;
     if (length != submission->len)
         stop(path, "too long for a length of 4 bytes", "name a shorter file");
-    append(&inputs[BUFFER], submission->bytes, submission->len);
-    append(&inputs[LENGTHS], &length, sizeof length);
+    if (append(&inputs[BUFFER], submission->bytes, submission->len) ||
+        append(&inputs[LENGTHS], &length, sizeof length))
+        stop("the buffers", "no memory", "free some");
 }
 
 /* Reads the folder's roster and submissions, or its roster, buffer and lengths. */

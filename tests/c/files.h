@@ -1,4 +1,4 @@
-/* Whole files, for the bench tools and the audit's benchmark. */
+/* Whole files, for the programs in C. */
 #ifndef FILES_H
 #define FILES_H
 
@@ -32,6 +32,19 @@ static inline int read_file(const char *path, struct file *file)
     int problem = !file->bytes ? ENOMEM : !ferror(from) ? 0 : errno ? errno : EIO;
     fclose(from);
     return problem;
+}
+
+/* Puts bytes after those of a file; 0, or the error's number. */
+static inline int append(struct file *to, const void *bytes, size_t len)
+{
+    if (len == 0)
+        return 0;
+    to->bytes = realloc(to->bytes, to->len + len);
+    if (!to->bytes)
+        return ENOMEM;
+    memcpy(to->bytes + to->len, bytes, len);
+    to->len += len;
+    return 0;
 }
 
 #endif

@@ -176,13 +176,21 @@ static inline void guarded_say_byte(const uint8_t *address)
     guarded_say(" bytes\n");
 }
 
+/* Says in a signal's handler what went wrong in the call, and what the program was doing. */
+static inline void guarded_say_failed(const char *what)
+{
+    guarded_say(guarded_program);
+    guarded_say(": FAILED: ");
+    guarded_say(what);
+    guarded_say("\n");
+    guarded_say(guarded_doing);
+}
+
 /* A call that reads or writes what it must not ends here. */
 static inline void guarded_on_fault(int number, siginfo_t *info, void *context)
 {
     const greg_t *registers = ((const ucontext_t *)context)->uc_mcontext.gregs;
-    guarded_say(guarded_program);
-    guarded_say(": FAILED: a fault (memory or instruction) in the call\n");
-    guarded_say(guarded_doing);
+    guarded_say_failed("a fault (memory or instruction) in the call");
     if (number == SIGSEGV || number == SIGBUS) {
         guarded_say(registers[REG_ERR] & 2 ? "  written: " : "  read: "); /* of a page fault */
         guarded_say_byte(info->si_addr);

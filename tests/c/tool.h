@@ -1,17 +1,16 @@
 /*
- * What the bench tools share: the calls that each makes and how it holds them to each other, what it
- * says, and the files of a folder. A tool defines TOOL, its name, before it includes this, and
- * afterwards the three functions that are declared here.
+ * What the bench tools share: the calls that each makes and how it holds them to each other, and
+ * the files of a folder. A tool defines TOOL, its name, before it includes this, and afterwards the
+ * three functions that are declared here.
  */
 #ifndef TESTS_C_TOOL_H
 #define TESTS_C_TOOL_H
 
-#include "files.h"
+#include "failures.h"
 #include "guarded.h"
 #include "hirelog.h"
 
 #include <inttypes.h>
-#include <unistd.h>
 
 /* What a call is lent to read. */
 enum { INPUTS = 3 };
@@ -24,7 +23,6 @@ static const char *const call_names[CALLS] = {
     "with an unreadable page right before each buffer",
     "with NULL for each buffer of no bytes",
 };
-static char under_way[100]; /* the call, for a fault's message */
 
 static struct file inputs[INPUTS], expected;
 static size_t report_len;
@@ -43,26 +41,6 @@ static struct answer call_library(const uint8_t *const lent[INPUTS], uint8_t *re
 static void check_answer(const struct answer *answer);
 static void print_lines(const struct answer *answer);
 
-/* ---- what is said */
-
-static _Noreturn void fail(const char *what)
-{
-    printf(TOOL ": FAILED: %s\n%s", what, under_way);
-    fflush(stdout);
-    _exit(1);
-}
-
-static _Noreturn void stop(const char *path, const char *why, const char *hint)
-{
-    fprintf(stderr, TOOL ": %s: %s; %s\n", path, why, hint);
-    exit(2);
-}
-
-static _Noreturn void guarded_stop(const char *why, const char *hint)
-{
-    stop("the buffers", why, hint);
-}
-
 static void print_answer(const struct answer *answer)
 {
     printf("number %" PRIu32 "\nreport ", answer->number);
@@ -79,12 +57,8 @@ static void print_answer(const struct answer *answer)
 static void check_kept(const struct answer *answer)
 {
     ptrdiff_t at;
-    char text[120];
-    if (guarded_changed(&report_room, answer->written, &at)) {
-        snprintf(text, sizeof text, "byte %td of the report (%zu are the call's) was written", at,
-                 answer->written);
-        fail(text);
-    }
+    if (guarded_changed(&report_room, answer->written, &at))
+        fail("byte %td of the report (%zu are the call's) was written", at, answer->written);
 }
 
 /*
@@ -93,13 +67,9 @@ static void check_kept(const struct answer *answer)
  */
 static void check_expected(const struct answer *answer)
 {
-    char text[120];
-    for (size_t i = 0; i < expected.len; i++) {
-        if (i >= report_len || (i < answer->written && answer->report[i] != expected.bytes[i])) {
-            snprintf(text, sizeof text, "byte %zu of the report is not that of the file report", i);
-            fail(text);
-        }
-    }
+    for (size_t i = 0; i < expected.len; i++)
+        if (i >= report_len || (i < answer->written && answer->report[i] != expected.bytes[i]))
+            fail("byte %zu of the report is not that of the file report", i);
     if (expected.bytes && expected.len < answer->written)
         fail("the file report is shorter than the report");
 }
@@ -158,13 +128,6 @@ static void read_length(const char *text, const char *from)
     if (errno || end == text || *end > ' ' || *text == '-' || len > 1 << 30)
         stop(from, "not a report's length", "write a number up to 1073741824");
     report_len = (size_t)len;
-}
-
-static void read_input(struct file *file, const char *path, const char *hint)
-{
-    int problem = read_file(path, file);
-    if (problem)
-        stop(path, strerror(problem), hint);
 }
 
 /* Reads a file of the folder, which has to be there. */
