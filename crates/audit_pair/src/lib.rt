@@ -25,11 +25,11 @@ pub fn validate(roster: &[u8], first: &[u8], second: &[u8]) -> Outcome
     if number != 0 {
         return Outcome::Refused(number, 0);
     }
-    let number_1 = submission_checks::number(roster, first);
+    let number_1 = submission_checks::validate_submission(roster, first).number;
     if number_1 != 0 {
         return Outcome::Refused(number_1, 1);
     }
-    let number_2 = submission_checks::number(roster, second);
+    let number_2 = submission_checks::validate_submission(roster, second).number;
     if number_2 != 0 {
         return Outcome::Refused(number_2, 2);
     }

@@ -44,6 +44,12 @@ pub run-last : (before upto : List Record) → runsFrom before upto [] ≡ run b
 unfolding runsFrom runsAfter
 run-last before upto = refl
 
+-- the run that has begun is among them
+pub run-begun : (before upto rest : List Record) → 0 < length (runsFrom before upto rest)
+run-begun before upto [] = rw (alone before upto) (omega arith)
+run-begun before upto (s ∷ rest) =
+    ⊎-elim (λ e. rw (e .1) (run-begun before (upto ++ (s ∷ [])) rest)) (λ e. rw e (omega arith)) (next before upto s rest)
+
 -- ---- each run is a beginning of the log
 
 begin-from : (before upto rest : List Record) (r : Run) → List·Memᴰ r (runsFrom before upto rest)

@@ -17,7 +17,7 @@ use Rattle.log_chain.specs.Runs.{run, runsFrom, runsAfter, runs}
 use Rattle.log_chain.specs.Records.{recordSize, recordsOf}
 use Rattle.log_terms.specs.Later.{recordsAfter, runsLeft}
 use Rattle.log_terms.proofs.Records.{recordAt, records-snoc, after-first, after-last, after-all}
-use Rattle.log_chain.proofs.Runs.{run-goes, run-ends, run-last}
+use Rattle.log_chain.proofs.Runs.{run-begun, run-goes, run-ends, run-last}
 
 -- where a record's term stands
 pub record-term : (w : ℕ) (s : List ℕ) (i : ℕ) → numberAt w s (recordSize w * i) ≡ recordAt w s i .term
@@ -43,11 +43,21 @@ module _ (w count i : ℕ) (s : List ℕ) where
       (λ (e : ltb i count ≡ false). absurd (omega (arith, ap length (runs-none (ltb-false i count e)))))
       (look (ltb i count))
 
-  -- ---- within a term
-
+  -- it begins with the next record
   pub starts : i < count → runsLeft w count i s ≡ runsFrom (recordsOf w i s) (recordsOf w (suc i) s) (recordsAfter w count (suc i) s)
   unfolding runsAfter
   starts h = rw (after-first w count i s h, records-snoc w i s)
+
+  -- where none is left, no record is
+  pub runs-over : length (runsLeft w count i s) ≡ 0 → count ≤ i
+  runs-over e =
+      ⊎-elim
+      (λ (h : ltb i count ≡ true).
+      absurd (omega (arith, e, ap length (starts (ltb-true i count h)), run-begun (recordsOf w i s) (recordsOf w (suc i) s) (recordsAfter w count (suc i) s))))
+      (λ (h : ltb i count ≡ false). ltb-false i count h)
+      (look (ltb i count))
+
+  -- ---- within a term
 
   module _ (end : ℕ) (walked : runsLeft w count i s ≡ runsFrom (recordsOf w i s) (recordsOf w end s) (recordsAfter w count end s)) where
     pub goes : end < count → recordAt w s end .term ≡ lastTerm (recordsOf w end s)

@@ -15,10 +15,17 @@ use sha256::State;
 
 pub mod pointers;
 
-// A term's last index, and that record's pointer.
+// What a walk over the log carries along: the pointer of the last record so far, and that of the last one up
+// to a commit index. Each is pointer 0 where there is no such record.
+pub struct LogPointers {
+    pub committed: State,
+    pub last: State,
+}
+
+// Where a walk over the terms has come to: a term's last index, and the pointers there.
 pub struct Walked {
     pub end: usize,
-    pub pointer: State,
+    pub pointers: LogPointers,
 }
 
 // The term of the record that follows record i.

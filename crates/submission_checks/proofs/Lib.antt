@@ -1,2 +1,3 @@
 mod CommitIndex
+pub mod Pointers
 pub mod Facts

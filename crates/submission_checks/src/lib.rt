@@ -1,17 +1,41 @@
 // The number of the first check that a submission does not meet (document 01, "What stops an audit": the
-// lowest number that applies), each check asked after those before it. The term's width is fixed here,
-// by the version, and free below.
+// lowest number that applies), each check asked after those before it; and the pointers that check 13's walk
+// over the log hands on (document 02, W2). The term's width is fixed here, by the version, and free below.
 ghost use mathlib.Core.Path.{_≡_};
+ghost use mathlib.Core.List.{[]};
 ghost use lib.ListN.{length};
 ghost use Rattle.refusal.specs.Checks.{refusal, first};
 ghost use Rattle.roster.specs.Roster.{rosterNumber};
+ghost use Rattle.log_chain.specs.Log.{Form, withTerms};
+ghost use Rattle.log_terms.specs.Pointed.{PointersOf};
+ghost use Rattle.submission.specs.Reading.{view};
 ghost use Rattle.submission_parts.specs.Parts.{Bounds};
 ghost use Rattle.submission_parts.specs.Shapes.{Known, viewIn};
 ghost use Rattle.submission.specs.Validate as paper;
 ghost use Rattle.submission_signatures.specs.Checked.{Laid, Counted};
 ghost use Rattle.submission_checks.specs.Checks.{leaderChecks, logChecks, partChecks};
+ghost use Rattle.submission_checks.specs.Pointers.{PointersHanded};
+use log_terms::LogPointers;
 use submission_parts::CommitPart;
 use submission_parts::Shape;
+
+// What validating a submission gives: its number, and the pointers of its committed records and of its log,
+// both pointer 0 where it is refused.
+pub struct Validated {
+    pub number: u32,
+    pub pointers: LogPointers,
+}
+
+// A refusal with this number, and pointer 0 twice.
+fn refused(number: u32) -> Validated
+    ensures number { λ r. ⌜ r .number ≡ number ⌝ }
+    ensures pointers { λ r. ⌜ ((form : Form) → PointersOf form [] [] (r .pointers)) ⌝ }
+{
+    Validated {
+        number,
+        pointers: log_terms::pointers::pointers_zero(),
+    }
+}
 
 // 14: whether the commit index is not 0 and not above H, where there is one.
 fn index_within_log(s: &[u8], shape: Shape) -> bool
@@ -30,53 +54,64 @@ fn index_within_log(s: &[u8], shape: Shape) -> bool
 }
 
 // 13 to 15.
-fn leader_number(roster: &[u8], s: &[u8], shape: Shape) -> u32
+fn validate_leaders(roster: &[u8], s: &[u8], shape: Shape) -> Validated
     requires { ⌜ Counted (now roster) shape (now s) ⌝ }
-    ensures { λ r. ⌜ r ≡ refusal (leaderChecks (now (roster .entry)) (shape .width) (shape .size)
-        (now (s .entry))) ⌝ }
+    ensures number { λ r. ⌜ r .number ≡ refusal (leaderChecks (now (roster .entry)) (shape .width)
+        (shape .size) (now (s .entry))) ⌝ }
+    ensures pointers { λ r. ⌜ PointersHanded (withTerms (shape .width) []) (viewIn shape (now (s .entry)))
+        r ⌝ }
 {
     let n = roster::replicas(roster);
-    if !submission_leaders::leaders_match_log(s, n, shape) {
-        return 13;
+    let leaders = submission_leaders::leaders_match_log(s, n, shape);
+    if !leaders.holds {
+        return refused(13);
     }
     if !index_within_log(s, shape) {
-        return 14;
+        return refused(14);
     }
-    if !submission_signatures::all_signatures_good(roster, s, shape) {
-        return 15;
+    let pointers = leaders.pointers;
+    if !submission_signatures::all_signatures_good(roster, s, shape, pointers) {
+        return refused(15);
     }
-    0
+    Validated {
+        number: 0,
+        pointers,
+    }
 }
 
 // 11 to 15.
-fn log_number(roster: &[u8], s: &[u8], shape: Shape) -> u32
+fn validate_log(roster: &[u8], s: &[u8], shape: Shape) -> Validated
     requires { ⌜ Laid (now roster) shape (now s) ⌝ }
-    ensures { λ r. ⌜ r ≡ refusal (logChecks (now (roster .entry)) (shape .width) (shape .size)
+    ensures number { λ r. ⌜ r .number ≡ refusal (logChecks (now (roster .entry)) (shape .width) (shape .size)
         (now (s .entry))) ⌝ }
+    ensures pointers { λ r. ⌜ PointersHanded (withTerms (shape .width) []) (viewIn shape (now (s .entry)))
+        r ⌝ }
 {
     if !log_terms::terms_in_order(s, shape.width, shape.records) {
-        return 11;
+        return refused(11);
     }
     let runs = log_terms::run_count(s, shape.width, shape.records);
     if shape.leaders != runs {
-        return 12;
+        return refused(12);
     }
-    leader_number(roster, s, shape)
+    validate_leaders(roster, s, shape)
 }
 
 // 9 to 15.
-fn part_number(roster: &[u8], s: &[u8], width: usize, size: usize) -> u32
+fn validate_parts(roster: &[u8], s: &[u8], width: usize, size: usize) -> Validated
     requires { ⌜ (rosterNumber (now roster) ≡ 0) × Bounds width size (now s) ⌝ }
-    ensures { λ r. ⌜ r ≡ refusal (partChecks (now (roster .entry)) width size (now (s .entry))) ⌝ }
+    ensures number { λ r. ⌜ r .number ≡ refusal (partChecks (now (roster .entry)) width size
+        (now (s .entry))) ⌝ }
+    ensures pointers { λ r. ⌜ PointersHanded (withTerms width []) (view width size (now (s .entry))) r ⌝ }
 {
     if !submission_parts::layout::parts_laid_out(s, width, size) {
-        return 9;
+        return refused(9);
     }
     let n = roster::replicas(roster);
     if !submission_quorums::all_signers_quorate(s, n, width, size) {
-        return 10;
+        return refused(10);
     }
-    log_number(
+    validate_log(
         roster,
         s,
         submission_parts::layout::shape_of(s, width, size),
@@ -84,34 +119,38 @@ fn part_number(roster: &[u8], s: &[u8], width: usize, size: usize) -> u32
 }
 
 // 5 to 15, against a roster that has no refusal.
-pub fn number(roster: &[u8], s: &[u8]) -> u32
+pub fn validate_submission(roster: &[u8], s: &[u8]) -> Validated
     requires { ⌜ rosterNumber (now roster) ≡ 0 ⌝ }
-    ensures { λ r. ⌜ r ≡ paper.validate (now (roster .entry)) (now (s .entry)) ⌝ }
+    ensures number { λ r. ⌜ r .number ≡ paper.validate (now (roster .entry)) (now (s .entry)) ⌝ }
+    ensures pointers { λ r. ⌜ PointersHanded (paper.formOf (now (roster .entry)))
+        (paper.viewOf (now (roster .entry)) (now (s .entry))) r ⌝ }
 {
     if !submission_trailer::size_in_range(s) {
-        return 5;
+        return refused(5);
     }
     if !submission_trailer::version_known(s) {
-        return 6;
+        return refused(6);
     }
     if !submission_trailer::name_matches(roster, s) {
-        return 7;
+        return refused(7);
     }
     if !submission_trailer::counts_in_range(s) {
-        return 8;
+        return refused(8);
     }
     let size = roster::signature_size(roster);
-    part_number(roster, s, submission_trailer::TERM_SIZE, size)
+    validate_parts(roster, s, submission_trailer::TERM_SIZE, size)
 }
 
-// The roster's refusal, or that of the submission against it; 0 where both are accepted.
-pub fn validate(roster: &[u8], s: &[u8]) -> u32
-    ensures { λ r. ⌜ r ≡ first (rosterNumber (now (roster .entry))) (paper.validate (now (roster .entry))
-        (now (s .entry))) ⌝ }
+// The roster's refusal, or what the submission gets against it.
+pub fn validate(roster: &[u8], s: &[u8]) -> Validated
+    ensures number { λ r. ⌜ r .number ≡ first (rosterNumber (now (roster .entry)))
+        (paper.validate (now (roster .entry)) (now (s .entry))) ⌝ }
+    ensures pointers { λ r. ⌜ PointersHanded (paper.formOf (now (roster .entry)))
+        (paper.viewOf (now (roster .entry)) (now (s .entry))) r ⌝ }
 {
-    let refused = roster_checks::validate(roster);
-    if refused != 0 {
-        return refused;
+    let number = roster_checks::validate(roster);
+    if number != 0 {
+        return refused(number);
     }
-    number(roster, s)
+    validate_submission(roster, s)
 }

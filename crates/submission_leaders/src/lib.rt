@@ -1,5 +1,6 @@
 // The leader certificates against the terms of the log (document 01, "What stops an audit", 13), over the
-// term's width. A pointer has no cluster name in it: that of the form is empty, or any, here.
+// term's width. This is the one walk over the log that hashes its records (document 02, W2). A pointer has no
+// cluster name in it: that of the form is empty, or any, here.
 ghost use mathlib.Core.Path.{_≡_};
 ghost use mathlib.Core.Bool.{true};
 ghost use mathlib.Core.List.{List, []};
@@ -10,16 +11,25 @@ ghost use Rattle.words.specs.Widths.{widthMost};
 ghost use Rattle.refusal.specs.Checks.{every};
 ghost use Rattle.log_chain.specs.Log.{withTerms, pointer};
 ghost use Rattle.log_chain.specs.Runs.{run};
-ghost use Rattle.submission.specs.View.{leads};
+ghost use Rattle.log_terms.specs.Pointed.{PointersIf};
+ghost use Rattle.submission.specs.View.{committed, leads};
 ghost use Rattle.log_chain.specs.Records.{recordSize, recordsOf};
 ghost use Rattle.submission.specs.Reading.{ballotAt, signersAt, ballotSize};
 ghost use Rattle.submission.specs.Reading.{certificateAt};
 ghost use Rattle.submission_parts.specs.Shapes.{Known, viewIn};
 ghost use Rattle.submission_leaders.specs.Leads as parts;
 ghost use Rattle.submission.specs.Validate as paper;
+use log_terms::LogPointers;
 use sha256::State;
 use submission::TERM_AT;
 use submission_parts::Shape;
+
+// Whether the certificates are those of the log's terms; and, where they are, the pointers of the committed
+// records and of the log.
+pub struct LogMatch {
+    pub holds: bool,
+    pub pointers: LogPointers,
+}
 
 // Whether the last term, index and pointer of the certificate at a place are those of the first i records.
 fn follows(s: &[u8], width: usize, at: usize, i: usize, before: State) -> bool
@@ -82,26 +92,37 @@ fn leading(s: &[u8], n: usize, width: usize, at: usize, i: usize, end: usize, be
     elected(s, width, at, n)
 }
 
-// 13: whether each certificate is that of its term.
-pub fn leaders_match_log(s: &[u8], n: usize, shape: Shape) -> bool
+// 13: whether each certificate is that of its term, with the pointers that the walk has carried along; where
+// one is not, pointer 0 twice.
+pub fn leaders_match_log(s: &[u8], n: usize, shape: Shape) -> LogMatch
     requires { ⌜ Known shape (now s)
         × (paper.oneEach (viewIn shape (now s)) ≡ true) ⌝ }
-    ensures { λ r. ⌜ ((name : List ℕ) → r ≡ every (paper.leading (withTerms (shape .width) name) n)
+    ensures holds { λ r. ⌜ ((name : List ℕ)
+        → r .holds ≡ every (paper.leading (withTerms (shape .width) name) n)
         (leads (viewIn shape (now (s .entry))))) ⌝ }
+    ensures pointers { λ r. ⌜ PointersIf (r .holds) (withTerms (shape .width) [])
+        (committed (viewIn shape (now (s .entry)))) (viewIn shape (now (s .entry)) .log) (r .pointers) ⌝ }
 {
+    let commit = submission_parts::commit_index(s, shape.width, shape.size);
     let mut left = shape.leaders;
     let mut place = shape.from;
-    let mut i = 0;
-    let mut before = log_terms::pointers::pointer_zero();
+    let mut walked = log_terms::pointers::walk_start();
     while 0 < left {
-        let walked = log_terms::pointers::next_run(s, shape.width, shape.records, i, before);
-        if !leading(s, n, shape.width, place, i, walked.end, before) {
-            return false;
+        let next = log_terms::pointers::next_run(s, shape.width, shape.records, commit, walked);
+        let before = walked.pointers;
+        if !leading(s, n, shape.width, place, walked.end, next.end, before.last) {
+            return LogMatch {
+                holds: false,
+                pointers: log_terms::pointers::pointers_zero(),
+            };
         }
         place = submission_parts::certificate_end(s, place, shape.width, shape.size);
-        i = walked.end;
-        before = walked.pointer;
+        walked = next;
         left -= 1;
     }
-    true
+    let pointers = walked.pointers;
+    LogMatch {
+        holds: true,
+        pointers,
+    }
 }

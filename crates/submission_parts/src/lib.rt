@@ -8,11 +8,12 @@ ghost use Prim.Native.Nat.{_+_, _*_, _≤_};
 ghost use lib.Count.{ones};
 ghost use lib.ListN.{length};
 ghost use Rattle.words.specs.Widths.{widthMost};
-ghost use Rattle.submission.specs.Reading.{certificateEnd, certificatesEnd, commitEnd, laidOut};
+ghost use Rattle.submission.specs.Reading.{certificateEnd, certificatesEnd, commitEnd, commitOf};
+ghost use Rattle.submission.specs.Reading.{laidOut};
 ghost use Rattle.submission.specs.Validate.{submissionMost};
 ghost use Rattle.submission_parts.specs.Reader as inner;
 ghost use Rattle.submission_parts.specs.Parts.{Bounds};
-ghost use Rattle.submission_parts.specs.Commits.{commitPart};
+ghost use Rattle.submission_parts.specs.Commits.{commitPart, commitIndex};
 use submission::COMMIT_FIELDS_SIZE;
 use submission::COMMIT_SIGNERS_AT;
 use submission::SIGNERS_SIZE;
@@ -190,4 +191,15 @@ pub fn commit_part(s: &[u8], width: usize, size: usize) -> CommitPart
         return CommitPart::Absent;
     };
     CommitPart::Found(numbers, at)
+}
+
+// The index of a laid-out submission's commit certificate, 0 where there is none.
+pub fn commit_index(s: &[u8], width: usize, size: usize) -> usize
+    requires { ⌜ Bounds width size (now s) × (laidOut width size (now s) ≡ true) ⌝ }
+    ensures { λ r. ⌜ r ≡ commitIndex (commitOf width size (now (s .entry))) ⌝ }
+{
+    let CommitPart::Found(c, _) = commit_part(s, width, size) else {
+        return 0;
+    };
+    c.index as usize
 }

@@ -16,9 +16,11 @@ use Rattle.refusal.proofs.Laws.{look, all-cons, cond-true, every-append}
 use Rattle.roster.specs.Roster.{replicas}
 use Rattle.submission.specs.Trailer.{recordCount, distance}
 use Rattle.log_chain.specs.Records.{recordsOf}
+use Rattle.submission.specs.View.{committedBy, committed}
 use Rattle.submission.specs.Reading.{signersAt, commitAt, commitEnd, commitFrom, commitOf, view}
 use Rattle.submission.specs.Validate.{quorate, commitSigners, masks, within}
 use Rattle.log_chain.proofs.Records.{length-records}
+use Rattle.log_terms.proofs.Records.{take-records}
 use Rattle.submission.proofs.Slots.{quorate-facts}
 use Rattle.submission_parts.specs.declared.Shape.{Shape}
 use Rattle.submission_parts.proofs.Inside.{commit-inside}
@@ -57,3 +59,10 @@ module _ (roster : List ℕ) (shape : Shape) (s : List ℕ) (laid : Laid roster 
         let h : within (some (commitAt s at)) (length (recordsOf (shape .width) (recordCount s) s)) ≡ true = rw there at inside in
         let q = all-cons (leb (numberAt 4 s at) (length (recordsOf (shape .width) (recordCount s) s))) _ (all-cons _ _ h .1) in
         rw (length-records (shape .width) (recordCount s) s, ← known-records _ _ (laid .known)) at (leb-true (numberAt 4 s at) (length (recordsOf (shape .width) (recordCount s) s)) (q .0))
+
+    -- so the committed records are the first so many of the submission
+    pub commit-records : within (view (shape .width) (shape .size) s .commit) (length (view (shape .width) (shape .size) s .log)) ≡ true
+        → committed (view (shape .width) (shape .size) s) ≡ recordsOf (shape .width) (numberAt 4 s at) s
+    unfolding view committed committedBy commitAt
+    commit-records inside =
+        rw there (take-records (shape .width) (numberAt 4 s at) (recordCount s) s (rw (known-records _ _ (laid .known)) at (commit-within inside)))

@@ -1,13 +1,15 @@
 -- What the checks before one leave of a submission (document 01, "What stops an audit").
 use mathlib.Core.Path.{_≡_}
 use mathlib.Core.Bool.{true}
-use mathlib.Core.List.{List}
+use mathlib.Core.List.{List, []}
 use Prim.Native.Nat.{ℕ}
 use lib.ListN.{length}
 use Rattle.refusal.specs.Checks.{every}
 use Rattle.roster.specs.Roster.{cluster, replicas, rosterNumber}
 use Rattle.log_chain.specs.Log.{withTerms}
-use Rattle.submission.specs.View.{leads}
+use Rattle.log_terms.specs.Pointed.{PointersOf}
+use Rattle.log_terms.specs.declared.LogPointers.{LogPointers}
+use Rattle.submission.specs.View.{committed, leads}
 use Rattle.submission.specs.Validate.{quorate, masks, oneEach, leading, within}
 use Rattle.submission_parts.specs.Shapes.{Known, viewIn}
 use Rattle.submission_parts.specs.declared.Shape.{Shape}
@@ -30,3 +32,8 @@ module _ (roster : List ℕ) (shape : Shape) (s : List ℕ) where
     pub leaders : every (leading (withTerms (shape .width) (cluster roster)) (replicas roster))
         (leads (viewIn shape s)) ≡ true
     pub commit : within (viewIn shape s .commit) (length (viewIn shape s .log)) ≡ true
+
+-- the pointers that check 13 hands on: of the committed records and of the log
+abbrev pub PointersIn : Shape → List ℕ → LogPointers → Type 0
+PointersIn shape s p =
+    PointersOf (withTerms (shape .width) []) (committed (viewIn shape s)) (viewIn shape s .log) p

@@ -53,22 +53,22 @@ add-end c =
     let room = room-of (start .args .roster .now) (start .args .buffer .now) (start .args .lengths .now) (l .i) (search needs) (start .pre .2) (l .at) (l .inv .1) in
     search (needs, room)
 
-part-number-start : tie.Need-part-number-start Inv-loop μ-loop
-part-number-start c =
+part-validate-submission-start : tie.Need-part-validate-submission-start Inv-loop μ-loop
+part-validate-submission-start c =
     let start = c .before .before .before .before .before .before .before .before in
     let l = c .before .before .loop in
     let room = room-of (start .args .roster .now) (start .args .buffer .now) (start .args .lengths .now) (l .i) (search needs) (start .pre .2) (l .at) (l .inv .1) in
     search (needs, room)
 
-part-number-end : tie.Need-part-number-end Inv-loop μ-loop
-part-number-end c =
+part-validate-submission-end : tie.Need-part-validate-submission-end Inv-loop μ-loop
+part-validate-submission-end c =
     let start = c .before .before .before .before .before .before .before .before in
     let l = c .before .before .loop in
     let room = room-of (start .args .roster .now) (start .args .buffer .now) (start .args .lengths .now) (l .i) (search needs) (start .pre .2) (l .at) (l .inv .1) in
     search (needs, room)
 
-number-requires : tie.Need-number-requires Inv-loop μ-loop
-number-requires c κs = c .before .before .before .before .before .before .before .before .before .pre .0
+validate-submission-requires : tie.Need-validate-submission-requires Inv-loop μ-loop
+validate-submission-requires c κs = c .before .before .before .before .before .before .before .before .before .pre .0
 
 put-u8-requires : tie.Need-put-u8-requires Inv-loop μ-loop
 put-u8-requires c κs =
@@ -80,6 +80,12 @@ with-judged-requires c κs =
     let l = c .before .before .before .before .before .before .before .before .loop in
     let start = c .before .before .before .before .before .before .before .before .before .before .before .before .before .before in
     (l .inv .5, omega (arith, counted-most (start .args .lengths .now) (start .pre .1)))
+
+add-i : tie.Need-add-i Inv-loop μ-loop
+add-i c =
+    let judged = c .before .before .before .before .before in
+    let start = judged .before .before .before .before .before .before .before .before .before .before in
+    omega (arith, judged .before .before .before .loop-test .taken, counted-most (start .args .lengths .now) (start .pre .1))
 
 loop-again : tie.Need-loop-again Inv-loop μ-loop
 unfolding this
@@ -95,20 +101,20 @@ loop-again c =
     let size = getD L (l .i) 0 in
     let inside : l .i < length L = search needs in
     let next : l .i + 1 ≡ suc (l .i) = omega arith in
-    let number : judged .number .result ≡ validate R (this R B L (l .i) inside) =
-    judged .number .ensures ∙ ap (validate R) (part-from B (l .at) size ∙ ap (λ (k : ℕ). take size (drop k B)) (l .inv .1)) in
+    let number : judged .validate-submission .result .number ≡ validate R (this R B L (l .i) inside) =
+    judged .validate-submission .ensures .0 ∙ ap (validate R) (part-from B (l .at) size ∙ ap (λ (k : ℕ). take size (drop k B)) (l .inv .1)) in
     let put = c .before .before .before .put-u8 in
     let bytes : put .last .0 ≡ over (numberBytes R (take (suc (l .i)) (parts L B))) (a .report .now) =
     put .ensures ∙ (λ k. sets (l .inv .3 k) (l .i) (be 1 (number k))) ∙ number-put R B L (l .i) inside (a .report .now) (start .pre .3) in (
       omega arith,
       ap (λ (k : ℕ). k + size) (l .inv .1) ∙ sym (sum-next L (l .i) inside) ∙ ap (λ (k : ℕ). total (take k L)) (sym next),
-      ap length (put .ensures) ∙ length-sets (l .report) (l .i) (be 1 (judged .number .result)) ∙ l .inv .2,
+      ap length (put .ensures) ∙ length-sets (l .report) (l .i) (be 1 (judged .validate-submission .result .number)) ∙ l .inv .2,
       bytes ∙ ap (λ (k : ℕ). over (numberBytes R (take k (parts L B))) (a .report .now)) (sym next),
-      entries-next R B L (l .i) inside (l .entries) (c .with-judged .result) (judged .number .result) (l .at) size (l .inv .1) refl number
+      entries-next R B L (l .i) inside (l .entries) (c .with-judged .result) (judged .validate-submission .result .number) (l .at) size (l .inv .1) refl number
           (c .with-judged .ensures .0) (l .inv .4)
           ∙ ap (λ (k : ℕ). acceptedFrom R 1 (take k (parts L B))) (sym next),
       rw next (c .with-judged .ensures .1),
-      fits-next R B L (l .i) inside (start .pre .2) (l .entries) (c .with-judged .result) (judged .number .result) (l .at) size (l .inv .1) refl number
+      fits-next R B L (l .i) inside (start .pre .2) (l .entries) (c .with-judged .result) (judged .validate-submission .result .number) (l .at) size (l .inv .1) refl number
           (c .with-judged .ensures .0) (l .inv .6),
     )
 
@@ -141,12 +147,12 @@ judge-spec =
     cast-size
     add-end
     (λ c. search needs)
-    part-number-start
-    part-number-end
-    number-requires
+    part-validate-submission-start
+    part-validate-submission-end
+    validate-submission-requires
     put-u8-requires
     with-judged-requires
-    (λ c. search needs)
+    add-i
     (λ c. omega arith)
     loop-again
     (λ c. c .before .loop .inv .2)

@@ -14,19 +14,19 @@ returns c =
 returns-2 : tie.Need-returns-2
 returns-2 c =
     let a = c .before .before .before .before .before .before .before .args in
-    first-refused (a .roster .now) (a .first .now) (a .second .now) (sym (c .before .before .before .validate .ensures) ∙ c .before .before .if1 .left) (c .before .number .ensures) (c .if2 .taken)
+    first-refused (a .roster .now) (a .first .now) (a .second .now) (sym (c .before .before .before .validate .ensures) ∙ c .before .before .if1 .left) (c .before .validate-submission .ensures .0) (c .if2 .taken)
 
 returns-3 : tie.Need-returns-3
 returns-3 c =
     let a = c .before .before .before .before .before .before .before .before .before .args in
-    second-refused (a .roster .now) (a .first .now) (a .second .now) (sym (c .before .before .before .before .before .validate .ensures) ∙ c .before .before .before .before .if1 .left) (sym (c .before .before .before .number .ensures) ∙ c .before .before .if2 .left)
-    (c .before .number2 .ensures) (c .if3 .taken)
+    second-refused (a .roster .now) (a .first .now) (a .second .now) (sym (c .before .before .before .before .before .validate .ensures) ∙ c .before .before .before .before .if1 .left) (sym (c .before .before .before .validate-submission .ensures .0) ∙ c .before .before .if2 .left)
+    (c .before .validate-submission2 .ensures .0) (c .if3 .taken)
 
 returns-4 : tie.Need-returns-4
 returns-4 c =
     let a = c .before .before .before .before .before .before .before .before .before .args in
-    both-accepted (a .roster .now) (a .first .now) (a .second .now) (sym (c .before .before .before .before .before .validate .ensures) ∙ c .before .before .before .before .if1 .left) (sym (c .before .before .before .number .ensures) ∙ c .before .before .if2 .left)
-    (sym (c .before .number2 .ensures) ∙ c .if3 .left)
+    both-accepted (a .roster .now) (a .first .now) (a .second .now) (sym (c .before .before .before .before .before .validate .ensures) ∙ c .before .before .before .before .if1 .left) (sym (c .before .before .before .validate-submission .ensures .0) ∙ c .before .before .if2 .left)
+    (sym (c .before .validate-submission2 .ensures .0) ∙ c .if3 .left)
 
 pub validate-spec : {M : Type 1} → statement M
 validate-spec =

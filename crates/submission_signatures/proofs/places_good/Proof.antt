@@ -1,100 +1,68 @@
--- Without a commit certificate there are no receipts; with one, its pointer is kept on the way to the log's end.
+-- The stamps first; without a commit certificate there are no receipts, with one its pointer is that of the committed records.
 -- Assumes nothing.
-use mathlib.Core.Path.{sym, _∙_}
-use native.Mathlib.Omega.{arith}
+use mathlib.Core.Path.{sym, ap, _∙_}
+use mathlib.Core.List.{[]}
 use borrow.Author.Needs.{needs}
 use borrow.Author.Tests.{not-true, not-false}
-use Rattle.log_chain.specs.Records.{recordsOf}
-use Rattle.submission.specs.Reading.{commitAt, view}
-use Rattle.submission_parts.specs.Reader.{commitNumbersAt}
+use Rattle.log_chain.specs.Log.{withTerms, pointer}
+use Rattle.submission.specs.Reading.{view}
 use Rattle.submission_parts.proofs.Commits.{absent-says, found-says}
-use Rattle.submission_parts.proofs.Shapes.{known-records, few-records, upto-room}
-use Rattle.submission_signatures.proofs.Facts.{commit-within}
+use Rattle.submission_parts.proofs.Shapes.{known-records}
+use Rattle.submission_signatures.proofs.Facts.{commit-records}
 use Rattle.submission_signatures.proofs.Fifteen.{first-fails, second-holds, no-receipts, with-receipts}
 use Rattle.submission_signatures.proofs.places_good.Statement.{statement}
 use Rattle.submission_signatures.proofs.places_good.Tie as tie
 
-returns : tie.Need-returns
+stamps-good-requires : tie.Need-stamps-good-requires
 unfolding view
-returns c =
-    let read = c .before .before .before .before in
-    let a = read .before .before .before .args in
-    let none-there = absent-says _ _ _ (sym (read .commit-part .ensures) ∙ c .before .before .enum-told .given .1) in
-    c .stamps-good-from .ensures ∙ second-holds _ (no-receipts _ (a .shape .size) (view (a .shape .width) (a .shape .size) (a .s .now)) none-there)
+stamps-good-requires c κs =
+    let p = c .before .before .pre in
+    (p .0, rw (known-records _ _ (p .0 .counted .laid .known)) (p .1 .last))
 
-stamps-good-from-requires : tie.Need-stamps-good-from-requires
-unfolding recordsOf
-stamps-good-from-requires c κs =
-    let start = c .before .before .before .before .before .before in
-    (start .pre, omega arith, c .pointer-zero .ensures (start .args .shape .width))
-
-pointer-after-requires : tie.Need-pointer-after-requires
-unfolding commitNumbersAt commitAt recordsOf
-pointer-after-requires c κs =
-    let found = c .before .before .before in
-    let read = found .before .before in
-    let start = read .before .before .before in
-    let checked = start .pre in
-    let laid = checked .counted .laid in
-    let told = found-says _ _ _ (sym (read .commit-part .ensures) ∙ found .c .given .1) in
-    let inside = commit-within _ _ _ laid _ (told .2) (checked .commit) in
-    rw (told .0) (
-      laid .known .bounds .width,
-      omega arith,
-      omega (arith, inside, few-records _ _ (laid .known)),
-      upto-room _ _ (laid .known) _ inside,
-      c .pointer-zero2 .ensures (start .args .shape .width),
-    )
-
-stamps-good-from-requires-2 : tie.Need-stamps-good-from-requires-2
-unfolding commitNumbersAt commitAt
-stamps-good-from-requires-2 c κs =
-    let found = c .before .before .before .before in
-    let read = found .before .before in
-    let p = read .before .before .before .pre in
-    let told = found-says _ _ _ (sym (read .commit-part .ensures) ∙ found .c .given .1) in
-    let inside = commit-within _ _ _ (p .counted .laid) _ (told .2) (p .commit) in
-    (p, rw (told .0) inside, c .pointer-after .ensures)
+returns : tie.Need-returns
+returns c = first-fails _ (sym (c .before .stamps-good .ensures) ∙ not-true _ (c .if1 .taken))
 
 returns-2 : tie.Need-returns-2
-returns-2 c = first-fails _ (sym (c .before .stamps-good-from2 .ensures) ∙ not-true _ (c .if1 .taken))
+unfolding view
+returns-2 c =
+    let read = c .before .before in
+    let stamps = read .before in
+    let a = stamps .before .before .before .before .args in
+    let none-there = absent-says _ _ _ (sym (read .commit-part .ensures) ∙ c .enum-told .given .1) in
+    sym (not-false _ (stamps .if1 .left)) ∙ stamps .before .stamps-good .ensures
+    ∙ second-holds _ (no-receipts _ (a .shape .size) (view (a .shape .width) (a .shape .size) (a .s .now)) none-there)
 
 receipts-good-requires : tie.Need-receipts-good-requires
-unfolding commitNumbersAt commitAt
 receipts-good-requires c κs =
-    let pointed = c .before .before in
-    let found = pointed .before .before .before .before in
-    let read = found .before .before in
-    let told = found-says _ _ _ (sym (read .commit-part .ensures) ∙ found .c .given .1) in
-    (read .before .before .before .pre, told .1, told .2, rw (told .0) at (pointed .pointer-after .ensures))
+    let read = c .before .before .before in
+    let start = read .before .before .before .before .before in
+    let a = start .args in
+    let checked = start .pre .0 in
+    let told = found-says _ _ _ (sym (read .commit-part .ensures) ∙ c .before .at .given .1) in
+    let there = commit-records _ _ _ (checked .counted .laid) _ (told .2) (checked .commit) in
+    (checked, told .1, told .2, start .pre .1 .committed ∙ ap (pointer (withTerms (a .shape .width) [])) there)
 
 returns-3 : tie.Need-returns-3
 unfolding view
 returns-3 c =
-    let stamps = c .before .before in
-    let found = stamps .before .before .before .before .before in
-    let read = found .before .before in
-    let start = read .before .before .before in
+    let read = c .before .before .before .before in
+    let stamps = read .before in
+    let start = stamps .before .before .before .before in
     let a = start .args in
-    let told = found-says _ _ _ (sym (read .commit-part .ensures) ∙ found .c .given .1) in
+    let told = found-says _ _ _ (sym (read .commit-part .ensures) ∙ c .before .before .at .given .1) in
     with-receipts _ (a .shape .size) (view (a .shape .width) (a .shape .size) (a .s .now)) (told .2)
-    (sym (stamps .stamps-good-from2 .ensures) ∙ not-false _ (c .before .if1 .left))
-    (rw (known-records _ _ (start .pre .counted .laid .known)) at (c .receipts-good .ensures))
+    (sym (stamps .before .stamps-good .ensures) ∙ not-false _ (stamps .if1 .left))
+    (rw (known-records _ _ (start .pre .0 .counted .laid .known)) at (c .receipts-good .ensures))
 
 pub places-good-spec : {M : Type 1} → statement M
 places-good-spec =
     tie.close
     (tie.spec
-    (λ c κs. let known = c .before .before .pre .counted .laid .known in (known .bounds, known .layout))
-    (λ c. search needs)
-    (λ c. search needs)
-    (λ c κs. search needs)
-    stamps-good-from-requires
+    stamps-good-requires
     returns
+    (λ c κs. let known = c .before .before .before .before .pre .0 .counted .laid .known in (known .bounds, known .layout))
     (λ c. search needs)
-    (λ c κs. search needs)
-    pointer-after-requires
-    stamps-good-from-requires-2
+    (λ c. search needs)
     returns-2
     receipts-good-requires
     returns-3)

@@ -6,12 +6,15 @@ use Rattle.refusal.proofs.Laws.{passed, refused, met, unmet}
 use Rattle.roster.proofs.Accepted.{sizes}
 use Rattle.submission_parts.specs.Shapes.{shapeOf}
 use Rattle.submission_checks.specs.Checks.{partChecks}
-use Rattle.submission_checks.proofs.part_number.Statement.{statement}
-use Rattle.submission_checks.proofs.part_number.Tie as tie
+use Rattle.submission_checks.proofs.Pointers.{refuses}
+use Rattle.submission_checks.proofs.validate_parts.Statement.{statement}
+use Rattle.submission_checks.proofs.validate_parts.Tie as tie
 
 returns : tie.Need-returns
 unfolding partChecks
-returns c = sym (refused 9 _ _ (unmet (c .before .parts-laid-out .ensures) (c .if1 .taken)))
+returns c =
+    refuses _ _ _ (omega arith) (c .refused .ensures)
+    (refused 9 _ _ (unmet (c .before .before .parts-laid-out .ensures) (c .before .if1 .taken)))
 
 all-signers-quorate-requires : tie.Need-all-signers-quorate-requires
 all-signers-quorate-requires c κs =
@@ -22,18 +25,19 @@ all-signers-quorate-requires c κs =
 returns-2 : tie.Need-returns-2
 unfolding partChecks
 returns-2 c =
-    let laid = c .before .before .before in
-    let asked = rw (c .before .before .replicas .ensures .0) at (c .before .all-signers-quorate .ensures) in
-    sym (passed 9 _ _ (met (laid .before .parts-laid-out .ensures) (laid .if1 .left)) ∙ refused 10 _ _ (unmet asked (c .if2 .taken)))
+    let laid = c .before .before .before .before in
+    let asked = rw (c .before .before .before .replicas .ensures .0) at (c .before .before .all-signers-quorate .ensures) in
+    refuses _ _ _ (omega arith) (c .refused2 .ensures)
+    (passed 9 _ _ (met (laid .before .parts-laid-out .ensures) (laid .if1 .left)) ∙ refused 10 _ _ (unmet asked (c .before .if2 .taken)))
 
 shape-of-requires : tie.Need-shape-of-requires
 shape-of-requires c κs =
     let laid = c .before .before .before in
     (laid .before .before .before .before .pre .1, met (laid .before .parts-laid-out .ensures) (laid .if1 .left))
 
-log-number-requires : tie.Need-log-number-requires
+validate-log-requires : tie.Need-validate-log-requires
 unfolding shapeOf
-log-number-requires c κs =
+validate-log-requires c κs =
     let quorate = c .before in
     let laid = quorate .before .before .before in
     let p = laid .before .before .before .before .pre in
@@ -50,18 +54,20 @@ returns-3 c =
     let quorate = c .before .before in
     let laid = quorate .before .before .before in
     let asked = rw (quorate .before .before .replicas .ensures .0) at (quorate .before .all-signers-quorate .ensures) in
-    rw (c .before .shape-of .ensures) at (c .log-number .ensures)
-    ∙ sym (passed 9 _ _ (met (laid .before .parts-laid-out .ensures) (laid .if1 .left)) ∙ passed 10 _ _ (met asked (quorate .if2 .left)))
+    let validated = rw (c .before .shape-of .ensures) at (c .validate-log .ensures) in
+    (validated .0 ∙ sym (passed 9 _ _ (met (laid .before .parts-laid-out .ensures) (laid .if1 .left)) ∙ passed 10 _ _ (met asked (quorate .if2 .left))), validated .1)
 
-pub part-number-spec : {M : Type 1} → statement M
-part-number-spec =
+pub validate-parts-spec : {M : Type 1} → statement M
+validate-parts-spec =
     tie.close
     (tie.spec
     (λ c κs. c .before .before .pre .1)
+    (λ c κs. tt)
     returns
     (λ c κs. let z = sizes _ (c .before .before .before .before .pre .0) in omega arith)
     all-signers-quorate-requires
+    (λ c κs. tt)
     returns-2
     shape-of-requires
-    log-number-requires
+    validate-log-requires
     returns-3)
