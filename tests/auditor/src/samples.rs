@@ -1,16 +1,21 @@
-//! Sample files: the smallest submission for each number, and pairs with the lines that `audit`
-//! prints for them. All of them follow from fixed labels, so they are always the same.
+//! Sample files: the smallest submission for each number, pairs with the lines that `audit` prints
+//! for them, and in `pointers` submissions whose hashes are counted. All of them follow from fixed
+//! labels, so they are always the same.
+
+pub mod pointers;
 
 use crate::build::{log, Draft};
 use crate::cases::accepted::{large, largest, LARGEST_LEAVES, LARGE_LEAVES};
 use crate::cases::worked_examples::{one_leader, stale_leader};
-use crate::cases::{empty, small, whole};
+use crate::cases::{empty, led, small, whole};
 use crate::cluster::{Cluster, Keys};
-use crate::roster::mask_of;
-use crate::sha256::sha256;
+use crate::numbers::ACCEPTED;
+use crate::roster::{mask_of, Roster};
+use crate::sha256::{sha256, Digest};
 use crate::signer::Signer;
-use crate::statement::Record;
-use crate::submission::CommitCertificate;
+use crate::statement::{self, Record, POINTER_0};
+use crate::submission::{CommitCertificate, Submission};
+use crate::verdicts::Verdicts;
 use std::rc::Rc;
 
 /// A roster and two submissions.
@@ -31,14 +36,31 @@ pub fn large_keys() -> Keys {
     Keys::new("large sample")
 }
 
-/// One submission for each number that a submission can get, with that number.
+/// One submission for each number that a submission can get, with that number; and more that are
+/// accepted, committed in part, not at all and up to the end.
 pub fn submissions(cluster: &Rc<Cluster>) -> Vec<(String, u8, Vec<u8>)> {
     let mut samples = Vec::new();
     for number in [0].into_iter().chain(5..=15) {
         samples.push((format!("n{number:02}"), number, smallest(cluster, number)));
     }
+    let led = |commit| led(&Signer::new(cluster), "abc", cluster.first_quorum(), commit);
     samples.push(("whole".into(), 0, whole(&Signer::new(cluster)).bytes()));
+    samples.push(("uncommitted".into(), 0, led(0).bytes()));
+    samples.push(("committed".into(), 0, led(3).bytes()));
     samples
+}
+
+/// The submission's number, and the pointers of the record at its commit certificate's index and of
+/// its log's last record: pointer 0 for one that it does not have, and for both if it is refused.
+pub fn judged(roster: &Roster, bytes: &[u8], verdicts: &mut Verdicts) -> (u8, [Digest; 2]) {
+    match Submission::read(roster, bytes, verdicts) {
+        Ok(submission) => {
+            let pointers = statement::pointers(&submission.records);
+            let committed = submission.commit.map_or(0, |commit| commit.index as usize);
+            (ACCEPTED, [pointers[committed], pointers[submission.records.len()]])
+        }
+        Err(number) => (number, [POINTER_0; 2]),
+    }
 }
 
 /// The smallest submission that gets the number; for 5, the longest of those that are too short.
@@ -140,7 +162,6 @@ mod tests {
     use super::*;
     use crate::audit::findings;
     use crate::program::lines;
-    use crate::verdicts::Verdicts;
 
     /// Each sample gets its number, in both places.
     #[test]
@@ -149,13 +170,33 @@ mod tests {
         let (roster, none) = (cluster.roster(), empty(&cluster).bytes());
         let mut verdicts = Verdicts::default();
         let samples = submissions(&cluster);
-        assert_eq!(samples.len(), 13);
+        assert_eq!(samples.len(), 15);
         for (name, number, bytes) in samples {
             let found = findings(&roster, &bytes, &none, &mut verdicts);
             assert_eq!((found.number, found.place), (number, (number != 0) as u8), "{name}");
             let found = findings(&roster, &none, &bytes, &mut verdicts);
             assert_eq!((found.number, found.place), (number, 2 * (number != 0) as u8), "{name}");
         }
+    }
+
+    /// Three records with no commit and with one at each index; an empty log; and a submission that
+    /// is refused by the last check.
+    #[test]
+    fn judged_pointers() {
+        let cluster = cluster();
+        let roster = Roster::read(&cluster.roster()).expect("a roster that is right");
+        let mut verdicts = Verdicts::default();
+        let mut judge = |draft: &Draft| judged(&roster, &draft.bytes(), &mut verdicts);
+        let committed = |commit| led(&Signer::new(&cluster), "abc", 0b011, commit);
+        for commit in 0..=3 {
+            let draft = committed(commit);
+            let pointers = statement::pointers(&draft.records);
+            assert_eq!(judge(&draft), (0, [pointers[commit as usize], pointers[3]]), "{commit}");
+        }
+        assert_eq!(judge(&empty(&cluster)), (0, [[0; 32]; 2]));
+        let mut draft = committed(2);
+        draft.stamps[0][0] ^= 1;
+        assert_eq!(judge(&draft), (15, [[0; 32]; 2]));
     }
 
     /// The lines that document 01 gives, and those of the other pairs.

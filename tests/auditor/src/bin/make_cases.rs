@@ -1,8 +1,12 @@
-//! make_cases FOLDER: writes the sample files into the folder, always the same.
+//! make_cases FOLDER [pointers]: writes the sample files into the folder, always the same. With
+//! `pointers` it writes FOLDER/pointers alone, and without it all the others.
 //!
 //! FOLDER/numbers: `roster`; `n00` and `n05` to `n15`, the smallest submission against it for
-//! each number; `whole`, an accepted one with every part; and `expected`, a line of name and
-//! number for each.
+//! each number; `whole`, an accepted one with every part, `uncommitted` and `committed`, without a
+//! commit and with one at the log's end; and `expected`, for each a line `NAME NUMBER COMMITTED
+//! LAST`: its number, and in hex the pointers of the record at its commit certificate's index and
+//! of its log's last record. 32 zero bytes stand for a pointer that it does not have, and for both
+//! if it is refused.
 //!
 //! FOLDER/samples/NAME, for each pair of the repository's folder samples, and FOLDER/pairs/NAME,
 //! for more: `roster`, `first`, `second`, `expected` (the lines that the program `audit` prints)
@@ -15,48 +19,55 @@
 //! run writes). FOLDER/districts/nine has nine large submissions.
 //!
 //! FOLDER/samples: `key`, `message` and `signature`, a good one, for the signature check.
+//!
+//! FOLDER/pointers: `roster`, submissions on which it is counted how often records are hashed, and
+//! `expected` as in numbers.
 
 use auditor::audit::findings;
-use auditor::cases::empty;
+use auditor::cluster::Cluster;
 use auditor::depot::samples::List;
-use auditor::samples::{cluster, large_keys, more_pairs, samples, submissions, Pair};
+use auditor::roster::Roster;
+use auditor::samples::{
+    cluster, judged, large_keys, more_pairs, pointers, samples, submissions, Pair,
+};
 use auditor::signer::Signer;
 use auditor::verdicts::Verdicts;
-use auditor::{depot, program};
+use auditor::{depot, hex, program};
 use std::path::{Path, PathBuf};
 use std::{env, fs, process::exit};
 
 fn main() {
     let arguments: Vec<String> = env::args().skip(1).collect();
-    let [folder] = &arguments[..] else {
-        eprintln!("use: make_cases FOLDER");
-        exit(2);
-    };
-    let folder = Path::new(folder);
-    let cluster = cluster();
+    let arguments: Vec<&str> = arguments.iter().map(String::as_str).collect();
     let mut verdicts = Verdicts::default();
-
-    let numbers = made(folder.join("numbers"));
-    let roster = cluster.roster();
-    let none = empty(&cluster).bytes();
-    write(&numbers, "roster", &roster);
-    let mut expected = String::new();
-    for (name, meant, bytes) in submissions(&cluster) {
-        let number = findings(&roster, &bytes, &none, &mut verdicts).number;
-        if number != meant {
-            eprintln!("make_cases: {name} gets {number}: make it anew in src/samples.rs");
-            exit(1);
+    let folder = match arguments[..] {
+        [folder] => {
+            make_samples(Path::new(folder), &mut verdicts);
+            folder.into()
         }
-        expected += &format!("{name} {number}\n");
-        write(&numbers, &name, &bytes);
-    }
-    write(&numbers, "expected", expected.as_bytes());
+        [folder, "pointers"] => {
+            let (folder, cluster) = (Path::new(folder).join("pointers"), pointers::cluster());
+            write_submissions(&folder, &cluster, pointers::submissions(&cluster), &mut verdicts);
+            folder
+        }
+        _ => {
+            eprintln!("use: make_cases FOLDER [pointers]");
+            exit(2);
+        }
+    };
+    println!("make_cases: {} written", folder.display());
+}
+
+/// Everything but `pointers`.
+fn make_samples(folder: &Path, verdicts: &mut Verdicts) {
+    let cluster = cluster();
+    write_submissions(&folder.join("numbers"), &cluster, submissions(&cluster), verdicts);
 
     let keys = large_keys();
     let parts = [("samples", samples(&cluster, &keys)), ("pairs", more_pairs(&cluster, &keys))];
     for (part, pairs) in parts {
         for pair in pairs {
-            write_pair(&made(folder.join(part).join(pair.folder)), &pair, &mut verdicts);
+            write_pair(&made(folder.join(part).join(pair.folder)), &pair, verdicts);
         }
     }
 
@@ -66,16 +77,40 @@ fn main() {
     ];
     for (part, lists) in parts {
         for list in lists {
-            write_list(&made(folder.join(part).join(list.folder)), &list, &mut verdicts);
+            write_list(&made(folder.join(part).join(list.folder)), &list, verdicts);
         }
     }
 
     let checked = made(folder.join("samples"));
     let message = b"Replica 1 of the samples signed these words.\n";
-    write(&checked, "key", &roster[18..18 + 56]);
+    write(&checked, "key", &cluster.roster()[18..18 + 56]);
     write(&checked, "message", message);
     write(&checked, "signature", &Signer::new(&cluster).sign(1, message));
-    println!("make_cases: {} written", folder.display());
+}
+
+/// The roster, submissions with their names, and `expected`; each has to get the number that it is
+/// meant to.
+fn write_submissions(
+    folder: &Path,
+    cluster: &Cluster,
+    submissions: Vec<(String, u8, Vec<u8>)>,
+    verdicts: &mut Verdicts,
+) {
+    let folder = made(folder.into());
+    let roster = Roster::read(&cluster.roster()).expect("a roster that is right");
+    let mut expected = String::new();
+    for (name, meant, bytes) in submissions {
+        let (number, pointers) = judged(&roster, &bytes, verdicts);
+        if number != meant {
+            eprintln!("make_cases: {name} gets {number}: make it anew in src/samples");
+            exit(1);
+        }
+        let [committed, last] = pointers.map(|pointer| hex::write(&pointer));
+        expected += &format!("{name} {number} {committed} {last}\n");
+        write(&folder, &name, &bytes);
+    }
+    write(&folder, "roster", &cluster.roster());
+    write(&folder, "expected", expected.as_bytes());
 }
 
 fn write_pair(folder: &Path, pair: &Pair, verdicts: &mut Verdicts) {
