@@ -36,6 +36,12 @@ module _ (shape : Shape) (s : List ℕ) (known : Known shape s) where
   unfolding oneEach view
   asked-count e = rw (e, known-records _ _ known, known-leaders _ _ known, length-certificates)
 
+-- check 13, with the roster's count and name
+pub asked-leading : (roster : List ℕ) (w S : ℕ) (s : List ℕ) {n : ℕ} {r : Bool} → n ≡ replicas roster
+    → ((name : List ℕ) → r ≡ every (leading (withTerms w name) n) (leads (view w S s)))
+    → r ≡ every (leading (withTerms w (cluster roster)) (replicas roster)) (leads (view w S s))
+asked-leading roster w S s count led = rw count at (led (cluster roster))
+
 -- ---- one by one
 
 pub sized-long : (s : List ℕ) → sized s ≡ true → trailerSize ≤ length s
