@@ -9,12 +9,13 @@ use borrow.Author.Tests.{leb-true, leb-false, eqb-true}
 use mathlib.Core.Logic.{⊎-elim}
 use lib.Dec.{eqb, leb, lit<, lit≤}
 use lib.ListN.{length}
+use lib.Seq.{length-take-le}
 use Rattle.refusal.proofs.Laws.{look, cond-true, all-cons, accepted}
 use Rattle.lm_digits.specs.Parameters.{row}
 use Rattle.lm_format.specs.declared.Height.{Height}
 use Rattle.lm_format.specs.declared.Height.the-variants.{Levels}
 use Rattle.lm_format.specs.Format.{height, keySize, oneTimeBytes, pathAt, signatureLength}
-use Rattle.roster.specs.Roster.{headSize, replicas, keyOf, treeType, oneTimeType, levels, signatureSize, everyReplica, sized, typed, rosterNumber}
+use Rattle.roster.specs.Roster.{nameSize, headSize, cluster, replicas, keyOf, treeType, oneTimeType, levels, signatureSize, everyReplica, sized, typed, rosterNumber}
 
 -- ---- every replica
 
@@ -116,6 +117,11 @@ module _ (roster : List ℕ) (fine : rosterNumber roster ≡ 0) where
   -- the key of replica k lies inside
   pub key-inside : (k : ℕ) → k ≤ replicas roster → headSize + keySize * k ≤ length roster
   key-inside k h = let s = sizes in omega arith
+
+  -- the cluster's name
+  pub name-length : length (cluster roster) ≡ nameSize
+  unfolding cluster
+  name-length = let s = sizes in length-take-le nameSize roster (omega arith)
 
   pub types : (k : ℕ) → 0 < k → k ≤ replicas roster → Types roster k
   types k low high = typed-true roster k (every-each (replicas roster) (typed roster) (checked .1) k low high)

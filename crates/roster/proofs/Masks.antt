@@ -4,12 +4,14 @@ use mathlib.Core.Path.{_≡_, ap, _∙_}
 use mathlib.Core.Bool.{true, false, cond}
 use mathlib.Core.List.{_∷_, List·Memᴰ, List·Memᴰ·head, List·Memᴰ·tail, Memᴰ·cast}
 use mathlib.Core.Logic.{_⊎_, inl, inr, ⊎-elim}
-use Prim.Native.Nat.{ℕ, zero, suc, _+_, _-_, _/_, _%_, _^_, _≤_, _<_}
+use Prim.Native.Nat.{ℕ, zero, suc, _+_, _-_, _/_, _%_, _^_, _≤_, _<_, zero-le}
 use native.Mathlib.Nat.{div-one, zero-div}
 use native.Mathlib.Omega.{arith}
 use borrow.Author.Tests.{eq-eqb, eqb-true, eqb-false}
 use lib.Bits.{bitOr, or-add-and, and-le-l, and-le-r, or-comm, or-mod, or-self, or-shr, or-zero-l, or-zero-r}
+use lib.Count.{ones, ones-step}
 use lib.Dec.{eqb}
+use lib.ListN.{length}
 use Rattle.refusal.proofs.Laws.{look}
 use Rattle.roster.specs.Masks.{signer, replicasFrom, replicasOf}
 use Rattle.roster.proofs.Quorums.{shift}
@@ -42,6 +44,17 @@ signer-positive (suc mask) k e = omega arith
 -- and 0 has none
 pub signer-none : (k : ℕ) → signer 0 k ≡ false
 signer-none k = ⊎-elim (λ (e : signer 0 k ≡ true). absurd (omega (arith, signer-positive 0 k e))) (λ e. e) (look (signer 0 k))
+
+-- a mask lists no more replicas than it has ones
+pub replicas-few : (bits k mask : ℕ) → length (replicasFrom bits k mask) ≤ ones mask
+unfolding replicasFrom
+replicas-few zero k mask = zero-le
+replicas-few (suc bits) k mask = go (look (eqb (mask % 2) 1)) (replicas-few bits (suc k) (mask / 2))
+  where
+    go : (eqb (mask % 2) 1 ≡ true) ⊎ (eqb (mask % 2) 1 ≡ false) → length (replicasFrom bits (suc k) (mask / 2)) ≤ ones (mask / 2)
+        → length (cond (eqb (mask % 2) 1) (k ∷ replicasFrom bits (suc k) (mask / 2)) (replicasFrom bits (suc k) (mask / 2))) ≤ ones mask
+    go (inl o) h = rw o (omega (arith, ones-step mask, eqb-true (mask % 2) 1 o, h))
+    go (inr o) h = rw o (omega (arith, ones-step mask, h))
 
 -- ---- two masks together
 

@@ -39,7 +39,7 @@ use Rattle.log_chain.proofs.Runs.{run-begins}
 -- ---- the records
 
 module _ (form : Form) where
-  records-fit : (count : ℕ) (bytes : List ℕ) → Bytes bytes → recordSize (form .termBytes) * count ≤ length bytes → LogFits form (recordsOf (form .termBytes) count bytes)
+  pub records-fit : (count : ℕ) (bytes : List ℕ) → Bytes bytes → recordSize (form .termBytes) * count ≤ length bytes → LogFits form (recordsOf (form .termBytes) count bytes)
   unfolding recordsOf recordSize numberAt
   records-fit zero bytes b h = empty
   records-fit (suc count) bytes b h =

@@ -4,20 +4,17 @@
 use mathlib.Core.Path.{_≡_, refl, sym, ap, _∙_}
 use mathlib.Core.List.{List, [], _∷_, _++_, append-assoc}
 use mathlib.Core.Option.{some}
-use Prim.Native.Nat.{ℕ, _+_, _≤_, zero-le}
+use Prim.Native.Nat.{ℕ, _+_, _≤_}
 use native.Mathlib.Nat.{add-assoc}
 use native.Mathlib.Omega.{arith}
-use lib.ListN.{length, take, drop, length-append, length-drop}
+use lib.ListN.{length, take, drop, length-drop}
 use lib.Seq.{length-take-le, take-add, drop-drop}
 use Rattle.words.specs.BigEndian.{be, number, numberAt}
-use Rattle.words.specs.Over.{over}
 use Rattle.words.proofs.Bytes.{Bytes}
 use Rattle.words.proofs.Laws.{bytes-take, bytes-drop, be-number}
-use Rattle.words.proofs.Over.{over-taken}
 use Rattle.refusal.specs.Checks.{every}
-use Rattle.roster.specs.Roster.{cluster, rosterNumber}
+use Rattle.roster.specs.Roster.{cluster}
 use Rattle.roster.specs.Masks.{replicasOf}
-use Rattle.roster.proofs.Accepted.{key-inside}
 use Rattle.log_chain.specs.Log.{withTerms, Record, pointer, lastTerm}
 use Rattle.log_chain.specs.Claim.{stamped, received, voted, say, place, ballotBytes}
 use Rattle.log_chain.specs.Sizes.{placeStatement}
@@ -31,26 +28,6 @@ use Rattle.submission_signatures.specs.Votes.{ballots}
 use Rattle.log_chain.proofs.Records.{length-records}
 use Rattle.log_terms.proofs.Records.{take-records}
 use Rattle.submission_slots.proofs.Signed.{goodAll-certified}
-
--- ---- the cluster's name
-
-pub name-length : (roster : List ℕ) → rosterNumber roster ≡ 0 → length (cluster roster) ≡ 16
-unfolding cluster
-name-length roster fine = length-take-le 16 roster (omega (arith, key-inside roster fine 0 zero-le))
-
--- ---- a statement in a buffer
-
--- what a writer leaves of a buffer begins with what it wrote, read up to the number that it gave
-module _ (B e out : List ℕ) (end : ℕ) (size : end ≡ length B) (bytes : out ≡ over B e) where
-  pub written : take end out ≡ B
-  written = rw bytes (over-taken B e end size)
-
-  pub written-long : end ≡ length (take end out)
-  written-long = size ∙ sym (ap length written)
-
-  pub written-inside : end ≤ length out
-  unfolding over
-  written-inside = rw (bytes, size, length-append) (omega arith)
 
 -- ---- a vote
 

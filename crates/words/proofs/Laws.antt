@@ -10,7 +10,7 @@ use lib.Arith.{mod-mul, digits-lt, digits-div}
 use lib.Pow.{pow-add}
 use lib.Dec.{lit<}
 use lib.ListN.{length, take, drop, getD, length-take, length-drop, length-append, replicate, set}
-use lib.Seq.{take-suc, drop-cons, drop-drop, take-all, take-at, drop-at, length-take-le, sets, sets-eq, getD-drop, set-comm}
+use lib.Seq.{take-nil, take-suc, drop-cons, drop-drop, take-all, take-at, drop-at, length-take-le, sets, sets-eq, getD-drop, set-comm}
 use Rattle.words.specs.BigEndian.{number, be, numberAt}
 use Rattle.words.proofs.Bytes.{Bytes, none, more}
 
@@ -56,6 +56,14 @@ unfolding number
 number-append [] ys = rw (zero-mul, zero-add)
 number-append (x ∷ xs) ys =
     rw (number-append xs ys, length-append xs ys, pow-add 256 (length xs) (length ys), add-mul, mul-assoc, add-assoc)
+
+-- ---- beginnings of lists
+
+-- the rest of a beginning
+pub drop-take : (a b : ℕ) (l : List ℕ) → drop a (take (a + b) l) ≡ take b (drop a l)
+drop-take zero b l = ap (λ k. take k l) (zero-add b)
+drop-take (suc a) b [] = ap (λ k. drop (suc a) (take k [])) (suc-add a b) ∙ sym (take-nil b)
+drop-take (suc a) b (x ∷ xs) = ap (λ k. drop (suc a) (take k (x ∷ xs))) (suc-add a b) ∙ drop-take a b xs
 
 -- ---- lists of bytes
 

@@ -57,3 +57,15 @@ unfolding over
 over-next W e vs k h room =
     let size : k + length vs ≡ length (W ++ vs) = sym (length-append W vs ∙ ap (λ (n : ℕ). n + length vs) h) in
     ap (λ (n : ℕ). sets (W ++ drop n e) k vs) h ∙ sets-next W e vs k (k + length vs) h refl room ∙ ap (λ (n : ℕ). W ++ vs ++ drop n e) size
+
+-- what a writer leaves of a buffer begins with what it wrote, read up to the number that it gave
+module _ (B e out : List ℕ) (end : ℕ) (size : end ≡ length B) (bytes : out ≡ over B e) where
+  pub written : take end out ≡ B
+  written = rw bytes (over-taken B e end size)
+
+  pub written-long : end ≡ length (take end out)
+  written-long = size ∙ sym (ap length written)
+
+  pub written-inside : end ≤ length out
+  unfolding over
+  written-inside = rw (bytes, size, length-append) (omega arith)

@@ -6,6 +6,8 @@ use Prim.Native.Nat.{ℕ, _+_, _≤_}
 use native.Mathlib.Omega.{arith}
 use borrow.Author.Needs.{needs}
 use lib.ListN.{length, take, drop, length-take}
+use Rattle.words.proofs.Over.{written, written-long, written-inside}
+use Rattle.roster.proofs.Accepted.{name-length}
 use Rattle.sha256.specs.Service.{limit}
 use Rattle.sha256.specs.Sha256.{bytesOf}
 use Rattle.roster.specs.Roster.{cluster}
@@ -17,7 +19,7 @@ use Rattle.submission.specs.Reading.{signersAt, commitEnd}
 use Rattle.submission_slots.specs.Signatures.{goodAll}
 use Rattle.submission_parts.proofs.Shapes.{records-room, upto-room}
 use Rattle.submission_signatures.proofs.Facts.{commit-signers, commit-within, commit-end-in}
-use Rattle.submission_signatures.proofs.Said.{name-length, written, written-long, written-inside, receipt-slots}
+use Rattle.submission_signatures.proofs.Said.{receipt-slots}
 use Rattle.submission_signatures.proofs.receipts.receipts_good.Statement.{statement}
 use Rattle.submission_signatures.proofs.receipts.receipts_good.Tie as tie
 

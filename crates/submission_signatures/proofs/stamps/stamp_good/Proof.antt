@@ -5,11 +5,11 @@ use Prim.Native.Nat.{_+_, _-_, _≤_}
 use native.Mathlib.Omega.{arith}
 use borrow.Author.Needs.{needs}
 use lib.ListN.{length, take, length-take}
+use Rattle.words.proofs.Over.{written, written-long, written-inside}
+use Rattle.roster.proofs.Accepted.{key-inside, name-length}
 use Rattle.sha256.specs.Service.{limit}
 use Rattle.roster.specs.Roster.{cluster}
-use Rattle.roster.proofs.Accepted.{key-inside}
 use Rattle.submission.specs.Reading.{ballotSize}
-use Rattle.submission_signatures.proofs.Said.{name-length, written, written-long, written-inside}
 use Rattle.submission_signatures.proofs.stamps.stamp_good.Statement.{statement}
 use Rattle.submission_signatures.proofs.stamps.stamp_good.Tie as tie
 

@@ -6,6 +6,8 @@ use Prim.Native.Nat.{ℕ, _+_, _-_, _≤_, _<_}
 use native.Mathlib.Omega.{arith}
 use borrow.Author.Needs.{needs}
 use lib.ListN.{length, getD, take, drop, length-take}
+use Rattle.words.proofs.Over.{written, written-long, written-inside}
+use Rattle.roster.proofs.Accepted.{name-length}
 use Rattle.words.specs.BigEndian.{numberAt}
 use Rattle.words.proofs.Laws.{bytes-each}
 use Rattle.sha256.specs.Service.{limit}
@@ -14,7 +16,7 @@ use Rattle.roster.specs.Masks.{replicasOf}
 use Rattle.submission.specs.Reading.{ballotSize, signersAt, certificateEnd}
 use Rattle.submission.proofs.Certificates.{certificate-head}
 use Rattle.submission_slots.specs.Signatures.{goodAll}
-use Rattle.submission_signatures.proofs.Said.{name-length, written, written-long, written-inside, vote-slots}
+use Rattle.submission_signatures.proofs.Said.{vote-slots}
 use Rattle.submission_signatures.proofs.votes.votes_good_at.Statement.{statement}
 use Rattle.submission_signatures.proofs.votes.votes_good_at.Tie as tie
 
