@@ -1,0 +1,9 @@
+pub mod Whole
+pub mod Chosen
+pub mod Assembled
+pub mod Fits
+pub mod Answers
+pub mod Claim
+mod Examples
+mod Missing
+mod Strength

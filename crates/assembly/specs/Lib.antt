@@ -1,0 +1,4 @@
+pub mod Items
+pub mod Choice
+pub mod Assembly
+pub mod Claims

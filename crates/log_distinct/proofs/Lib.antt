@@ -1,0 +1,3 @@
+pub mod Distinct
+mod Counting
+mod Examples
