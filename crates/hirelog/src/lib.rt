@@ -7,6 +7,9 @@ ghost use Rattle.report.specs.Report.{auditNumber, reportAfter};
 ghost use Rattle.report.specs.Claims.{Naming, Fairness};
 ghost use Rattle.district.specs.District.{districtNumber, districtAfter};
 ghost use Rattle.district.specs.Claims.{DistrictNaming, DistrictFairness};
+ghost use Rattle.assembly.specs.Assembly.{assembleNumber, assembleLength, outputAfter};
+ghost use Rattle.assembly.specs.Claims.{Assembled};
+use written::Written;
 
 // SHA-256 (document 01, "Digest and signature"; FIPS 180-4): 0 and the digest of the message, or 16 for a
 // message of more than 16,777,216 bytes, with the digest as it was.
@@ -73,4 +76,29 @@ pub extern "C" fn hirelog_district(
         (now (lengths .entry)) r (now (report .exit)) ⌝ }
 {
     audit_district::audit(roster, buffer, lengths, report)
+}
+
+// Assembling a submission (document 02, W3) from a log and a bag of items: the number, and how many of the
+// output's first bytes were written; a refusal writes nothing, and its length is 0. What is written is
+// accepted against the same roster, and has the same log.
+#[no_mangle]
+pub extern "C" fn hirelog_assemble(
+    roster: &[u8],
+    log: &[u8],
+    items: &[u8],
+    output: &mut [u8],
+) -> Written
+    ensures number { λ r. ⌜ r .number
+        ≡ assembleNumber (now (roster .entry)) (now (log .entry)) (now (items .entry))
+        (now (output .entry)) ⌝ }
+    ensures length { λ r. ⌜ r .length
+        ≡ assembleLength (now (roster .entry)) (now (log .entry)) (now (items .entry))
+        (now (output .entry)) ⌝ }
+    ensures bytes { λ _. ⌜ now (output .exit)
+        ≡ outputAfter (now (roster .entry)) (now (log .entry)) (now (items .entry))
+        (now (output .entry)) ⌝ }
+    ensures assembled { λ r. ⌜ Assembled (now (roster .entry)) (now (log .entry)) (r .number) (r .length)
+        (now (output .exit)) ⌝ }
+{
+    assembly_service::assemble(roster, log, items, output)
 }

@@ -22,6 +22,13 @@ pub const POINTER_SIZE: usize = 32;
 // The most bytes of a chain string before the pointer: index and record.
 const CHAIN_HEAD_MOST: usize = INDEX_SIZE + words::WIDTH_MOST + DIGEST_SIZE;
 
+// The kind bytes of a stamp, a receipt and a vote.
+pub const STAMP: u8 = 1;
+
+pub const RECEIPT: u8 = 2;
+
+pub const VOTE: u8 = 3;
+
 // Where the cluster's name stands in a statement, after the kind.
 pub const NAME_AT: usize = 1;
 

@@ -48,7 +48,7 @@ pub fn walk_start() -> Walked
 }
 
 // The pointer of record i + 1, from record i's.
-fn step(s: &[u8], width: usize, i: usize, before: State) -> State
+pub fn step(s: &[u8], width: usize, i: usize, before: State) -> State
     requires { ⌜ (width ≤ widthMost) × (i + 1 < 2 ^ 32) × (recordSize width * (i + 1) ≤ length (now s))
         × (bytesOf before ≡ pointer (withTerms width []) (recordsOf width i (now s))) ⌝ }
     ensures { λ r. ⌜ bytesOf r ≡ pointer (withTerms width []) (recordsOf width (i + 1) (now (s .entry))) ⌝ }

@@ -11,14 +11,12 @@ ghost use Rattle.log_chain.specs.Records.{recordsOf};
 ghost use Rattle.submission.specs.Reading.{commitAt, commitFrom, commitOf};
 ghost use Rattle.submission_signatures.specs.Checked.{Checked};
 ghost use Rattle.submission_signatures.specs.Genuine.{genuineIn};
+use log_chain::RECEIPT;
 use sha256::State;
 use submission::COMMIT_FIELDS_SIZE;
 use submission::COMMIT_SIGNERS_AT;
 use submission::STATEMENT_MOST;
 use submission_parts::Shape;
-
-// A receipt's kind byte.
-const RECEIPT: u8 = 2;
 
 // Whether the receipts of the commit certificate at a place are good, from the pointer of the record that it
 // names.

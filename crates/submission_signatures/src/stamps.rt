@@ -16,13 +16,11 @@ ghost use Rattle.log_chain.specs.Records.{recordsOf};
 ghost use Rattle.submission_signatures.specs.Checked.{Checked};
 ghost use Rattle.submission_parts.specs.Shapes.{viewIn};
 ghost use Rattle.submission_signatures.specs.Genuine.{genuineIn};
+use log_chain::STAMP;
 use sha256::State;
 use submission::STATEMENT_MOST;
 use submission::TERM_AT;
 use submission_parts::Shape;
-
-// A stamp's kind byte.
-const STAMP: u8 = 1;
 
 // Whether a stamp is that of the leader certificate at a place: its candidate's, in its term, on the record
 // with an index and a pointer.

@@ -11,12 +11,10 @@ ghost use Rattle.submission_signatures.specs.Votes.{ballots};
 ghost use Rattle.submission_signatures.specs.Checked.{Checked};
 ghost use Rattle.submission_parts.specs.Shapes.{viewIn};
 ghost use Rattle.submission_signatures.specs.Genuine.{genuineIn};
+use log_chain::VOTE;
 use submission::SIGNERS_SIZE;
 use submission::STATEMENT_MOST;
 use submission_parts::Shape;
-
-// A vote's kind byte.
-const VOTE: u8 = 3;
 
 // Whether the votes of the leader certificate at a place are good.
 fn votes_good_at(roster: &[u8], s: &[u8], width: usize, size: usize, at: usize) -> bool

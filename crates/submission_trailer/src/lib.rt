@@ -12,12 +12,12 @@ pub const TRAILER_SIZE: usize = 44;
 // The most bytes, records and terms.
 const SUBMISSION_MOST: usize = 2097152;
 
-const RECORD_MOST: usize = 4096;
+pub const RECORD_MOST: usize = 4096;
 
-const LEADER_MOST: usize = 64;
+pub const LEADER_MOST: usize = 64;
 
 // The version of this paper, and the bytes of a term in it.
-const VERSION: u32 = 1;
+pub const VERSION: u32 = 1;
 
 pub const TERM_SIZE: usize = 4;
 

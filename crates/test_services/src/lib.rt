@@ -8,6 +8,9 @@ ghost use Rattle.report.specs.Report.{auditNumber, reportAfter};
 ghost use Rattle.report.specs.Claims.{Naming, Fairness};
 ghost use Rattle.district.specs.District.{districtNumber, districtAfter};
 ghost use Rattle.district.specs.Claims.{DistrictNaming, DistrictFairness};
+ghost use Rattle.assembly.specs.Assembly.{assembleNumber, assembleLength, outputAfter};
+ghost use Rattle.assembly.specs.Claims.{Assembled};
+use written::Written;
 
 pub fn sha256(message: &[u8], digest: &mut [u8; 32]) -> u32
     ensures number { λ r. ⌜ r ≡ digestNumber (now (message .entry)) ⌝ }
@@ -51,4 +54,20 @@ pub fn district(roster: &[u8], buffer: &[u8], lengths: &[u32], report: &mut [u8]
         (now (lengths .entry)) r (now (report .exit)) ⌝ }
 {
     hirelog::hirelog_district(roster, buffer, lengths, report)
+}
+
+pub fn assemble(roster: &[u8], log: &[u8], items: &[u8], output: &mut [u8]) -> Written
+    ensures number { λ r. ⌜ r .number
+        ≡ assembleNumber (now (roster .entry)) (now (log .entry)) (now (items .entry))
+        (now (output .entry)) ⌝ }
+    ensures length { λ r. ⌜ r .length
+        ≡ assembleLength (now (roster .entry)) (now (log .entry)) (now (items .entry))
+        (now (output .entry)) ⌝ }
+    ensures bytes { λ _. ⌜ now (output .exit)
+        ≡ outputAfter (now (roster .entry)) (now (log .entry)) (now (items .entry))
+        (now (output .entry)) ⌝ }
+    ensures assembled { λ r. ⌜ Assembled (now (roster .entry)) (now (log .entry)) (r .number) (r .length)
+        (now (output .exit)) ⌝ }
+{
+    hirelog::hirelog_assemble(roster, log, items, output)
 }

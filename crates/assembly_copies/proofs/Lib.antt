@@ -1,0 +1,7 @@
+mod Cells
+mod Copies
+mod Fitting
+pub mod Signers
+pub mod Taken
+mod Turns
+mod Walks

@@ -1,0 +1,92 @@
+-- A walk over the bag: what is found so far, with what the items from a place on have, is what all of them have.
+-- Assumes nothing.
+use mathlib.Core.Path.{_≡_, sym, _∙_}
+use mathlib.Core.Bool.{true, false, false≢true}
+use mathlib.Core.List.{List}
+use Prim.Native.Nat.{ℕ, _-_, _*_, _≤_, _<_}
+use native.Mathlib.Omega.{arith}
+use lib.ListN.{length, getD, drop}
+use Rattle.roster.specs.Roster.{replicas}
+use Rattle.roster.proofs.Accepted.{sizes}
+use Rattle.assembly.specs.Items.{itemsOf, whole}
+use Rattle.assembly_items.specs.declared.ItemPlace.{ItemPlace}
+use Rattle.assembly_items.specs.declared.ItemReading.the-variants.{Read, Refused}
+use Rattle.assembly_items.specs.Reader.{itemReading}
+use Rattle.assembly_items.proofs.Items.{stands, refused-broken, items-next, whole-next, items-end}
+use Rattle.assembly_copies.specs.declared.Sought.{Sought}
+use Rattle.assembly_copies.specs.Rows.{replicasMost, Placed}
+use Rattle.assembly_copies.specs.Sought.{Searched, CopiesFound}
+use Rattle.assembly_copies.specs.Offers.{Lies, Unlike, Taken}
+use Rattle.assembly_copies.proofs.Copies.{Found, found-none, found-taken, found-unlike, found-all}
+
+-- an item that was read lies in the bag
+pub item-lies : (w S : ℕ) (bag : List ℕ) (at : ℕ) {i : ItemPlace} → itemReading w S bag at ≡ Read i → Lies S bag i
+item-lies w S bag at e =
+    let here = stands w S bag at e in
+    record { begins = here .signature; ends = here .next; within = here .inside }
+
+module _ (roster bag wanted : List ℕ) (q : Sought) (room : ℕ) where
+  pub record Walked (rows : List ℕ) (at : ℕ) : Type 0 where
+    pub low : at ≤ length bag
+    pub rest : whole (q .width) (q .size) (drop at bag) ≡ true
+    pub long : length rows ≡ room
+    pub placed : Placed (q .size) bag (replicasMost * q .count) rows
+    pub found : Found roster bag wanted q rows (itemsOf (q .width) (q .size) (drop at bag)) (itemsOf (q .width) (q .size) bag)
+
+  module _ (s : Searched roster bag wanted q room) where
+    few : replicas roster ≤ replicasMost
+    few = sizes roster (s .fine) .high
+
+    -- nothing is found before the first item
+    pub walked-none : (rows : List ℕ) → length rows ≡ room → ((j : ℕ) → j < replicasMost * q .count → getD rows j 0 ≡ 0) → Walked rows 0
+    unfolding Placed
+    walked-none rows long empty =
+        record {
+          low = omega arith;
+          rest = s .items;
+          long = long;
+          placed = λ j h. rw (empty j h) (omega arith);
+          found = found-none roster bag wanted q rows (itemsOf (q .width) (q .size) bag) empty few;
+        }
+
+    pub walked-all : (rows : List ℕ) (at : ℕ) → Walked rows at → length bag ≤ at → CopiesFound roster bag wanted q rows
+    walked-all rows at walked end =
+        found-all roster bag wanted q rows few (omega (arith, s .cells, walked .long)) (rw (items-end (q .width) (q .size) bag at end) at (walked .found))
+
+  module _ (rows : List ℕ) (at : ℕ) (walked : Walked rows at) (more : at < length bag) where
+    -- no reading is refused
+    pub never : itemReading (q .width) (q .size) bag at ≡ Refused → ⊥
+    never e = false≢true (sym (refused-broken (q .width) (q .size) bag at more e) ∙ walked .rest)
+
+    module _ {i : ItemPlace} (e : itemReading (q .width) (q .size) bag at ≡ Read i) where
+      next-rest : whole (q .width) (q .size) (drop (i .next) bag) ≡ true
+      next-rest = sym (whole-next (q .width) (q .size) bag at more e) ∙ walked .rest
+
+      -- past an item that is no copy
+      pub walked-unlike : Unlike roster bag wanted q i → Walked rows (i .next)
+      walked-unlike unlike =
+          record {
+            low = stands (q .width) (q .size) bag at e .inside;
+            rest = next-rest;
+            long = walked .long;
+            placed = walked .placed;
+            found = found-unlike roster bag wanted q i rows (itemsOf (q .width) (q .size) (drop (i .next) bag)) (itemsOf (q .width) (q .size) bag)
+                (rw (items-next (q .width) (q .size) bag at more e) at (walked .found)) unlike;
+          }
+
+      -- past one that was offered
+      pub walked-taken : (after : List ℕ) → Taken roster bag wanted q i rows after → Placed (q .size) bag (replicasMost * q .count) after
+          → length after ≡ length rows → Walked after (i .next)
+      walked-taken after taken placed long =
+          record {
+            low = stands (q .width) (q .size) bag at e .inside;
+            rest = next-rest;
+            long = long ∙ walked .long;
+            placed = placed;
+            found = found-taken roster bag wanted q i rows (itemsOf (q .width) (q .size) (drop (i .next) bag)) (itemsOf (q .width) (q .size) bag)
+                (rw (items-next (q .width) (q .size) bag at more e) at (walked .found)) after (item-lies (q .width) (q .size) bag at e) taken;
+          }
+
+-- the room as another says it
+pub searched-room : (roster bag wanted : List ℕ) (q : Sought) {room other : ℕ} → other ≡ room → Searched roster bag wanted q room → Searched roster bag wanted q other
+searched-room roster bag wanted q e s = rw e s

@@ -1,0 +1,37 @@
+-- The items of a bag as the code reads them: where each part stands.
+use mathlib.Core.Bool.{cond}
+use mathlib.Core.List.{List, [], _∷_}
+use Prim.Native.Nat.{ℕ, _+_, _-_}
+use lib.Dec.{leb, ltb}
+use lib.ListN.{length, getD, take, drop}
+use Rattle.words.specs.BigEndian.{numberAt}
+use Rattle.refusal.specs.Checks.{all}
+use Rattle.roster.specs.Roster.{nameSize}
+use Rattle.submission.specs.Sizes.{ballotMost}
+use Rattle.assembly.specs.Items.{Item, statementSize}
+use Rattle.assembly_items.specs.declared.ItemPlace.{ItemPlace}
+use Rattle.assembly_items.specs.declared.ItemReading.{ItemReading}
+use Rattle.assembly_items.specs.declared.ItemReading.the-variants.{Read, Refused}
+
+-- the most bytes of a statement: a vote's, kind and cluster name before its fields
+abbrev pub statementMost : ℕ
+statementMost = 1 + nameSize + ballotMost
+
+-- the item at a place, or a refusal where its kind is none or the bag ends inside it
+unfoldable pub itemReading : ℕ → ℕ → List ℕ → ℕ → ItemReading
+itemReading w S bag at =
+    let size = statementSize w (getD bag (at + 2) 0) in
+    let signature = at + 2 + size in
+    let next = signature + S in
+    let item : ItemPlace =
+    record { replica = numberAt 2 bag at; statement = at + 2; signature = signature; next = next } in
+    cond (all (ltb 0 size ∷ leb next (length bag) ∷ [])) (Read item) Refused
+
+-- what the item says
+unfoldable pub itemOf : List ℕ → ItemPlace → Item
+itemOf bag i =
+    record {
+      replica = i .replica;
+      statement = take (i .signature - i .statement) (drop (i .statement) bag);
+      signature = take (i .next - i .signature) (drop (i .signature) bag);
+    }

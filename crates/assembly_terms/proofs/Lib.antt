@@ -1,0 +1,3 @@
+mod Tables
+mod Added
+pub mod Wanted

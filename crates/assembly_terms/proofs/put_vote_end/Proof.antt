@@ -1,0 +1,33 @@
+-- The term, and behind it the place of the records that the walk has passed.
+-- Assumes nothing.
+use native.Mathlib.Omega.{arith}
+use borrow.Author.Needs.{needs}
+use Rattle.words.specs.BigEndian.{be}
+use Rattle.words.proofs.Laws.{length-be}
+use Rattle.assembly_terms.proofs.Tables.{lent-second}
+use Rattle.assembly_terms.proofs.put_vote_end.Statement.{statement}
+use Rattle.assembly_terms.proofs.put_vote_end.Tie as tie
+
+returns : tie.Need-returns
+returns c =
+    let put = c .before .before .put-stamp-end in
+    let term = c .before .before .before .before .before .before in
+    let start = term .before .before .before .before in
+    let a = start .args in (
+      omega (arith, put .ensures .0),
+      lent-second (a .out .now) (term .put-number .last .0) (put .last .0) (be (a .width) (a .term)) _ (a .width) (length-be (a .width) (a .term))
+          (omega (arith, start .pre .4)) (term .put-number .ensures) (put .ensures .1),
+    )
+
+pub put-vote-end-spec : {M : Type 1} → statement M
+put-vote-end-spec =
+    tie.close
+    (tie.spec
+    (λ c κs. search needs)
+    (λ c. search needs)
+    (λ c. search needs)
+    (λ c. search needs)
+    (λ c κs. search needs)
+    (λ c. search needs)
+    (λ c. search needs)
+    returns)

@@ -1,0 +1,105 @@
+-- How long the parts can be: all of them fit the numbers of the trailer.
+-- Assumes nothing.
+use mathlib.Core.Path.{_≡_}
+use mathlib.Core.Bool.{true, false}
+use mathlib.Core.List.{List, _++_}
+use mathlib.Core.Logic.{⊎-elim}
+use Prim.Native.Nat.{ℕ, _+_, _-_, _*_, _≤_, _<_}
+use native.Mathlib.Nat.{mul-le-mul-left, mul-le-mul-right}
+use native.Mathlib.Omega.{arith}
+use lib.Count.{ones}
+use lib.Dec.{eqb}
+use lib.ListN.{length, getD, drop, length-take, length-append}
+use Rattle.words.specs.BigEndian.{be}
+use Rattle.words.proofs.Laws.{length-be}
+use Rattle.refusal.proofs.Laws.{look}
+use Rattle.log_chain.specs.Records.{recordSize}
+use Rattle.submission_encoding.specs.Copies.{signersOf, signatureOf}
+use Rattle.assembly_copies.specs.Rows.{takenSize, copyAt, copiesAt, rowAt}
+use Rattle.assembly_writer.specs.declared.Plan.{Plan}
+use Rattle.assembly_writer.specs.Parts.{signatureAt, signedAt, certificateIn, commitPart, voteEndAt, certificatePart, leadersPart, stampsPart, PlacesHeld, RowsInside}
+use Rattle.assembly_writer.proofs.Joined.{joined-most}
+use Rattle.assembly_writer.proofs.Signed.{signed-long, signers-few}
+use Rattle.assembly_writer.proofs.Rows.{row-places, commit-row-places}
+
+-- ---- one certificate, one stamp
+
+module _ (S : ℕ) (bag : List ℕ) where
+  pub signed-most : (n : ℕ) (places : List ℕ) → PlacesHeld S bag n places → length (signedAt S bag n places) ≤ 17390
+  signed-most n places held =
+      let m = ones (signersOf (copiesAt S bag n places)) in
+      let few : m ≤ 9 = omega (arith, signers-few S bag n places held, held .few) in
+      let most : S * m ≤ S * 9 = mul-le-mul-left S few in
+      omega (arith, signed-long S bag n places held, most, held .size)
+
+  pub certificate-most : (n : ℕ) (end row : List ℕ) → length end ≤ 52 → PlacesHeld S bag n (drop 2 row) → length (certificateIn S bag n end row) ≤ 17444
+  unfolding certificateIn
+  certificate-most n end row short held =
+      omega (
+        arith,
+        length-append (be 2 (getD row 0 0) ++ end) (signedAt S bag n (drop 2 row)),
+        length-append (be 2 (getD row 0 0)) end,
+        length-be 2 (getD row 0 0),
+        signed-most n (drop 2 row) held,
+      )
+
+  pub commit-most : (n : ℕ) (row : List ℕ) → PlacesHeld S bag n (drop 2 row) → length (commitPart S bag n row) ≤ 17394
+  unfolding commitPart
+  commit-most n row held =
+      ⊎-elim
+      (λ (e : eqb (getD row 0 0) 0 ≡ true). rw e (omega arith))
+      (λ (e : eqb (getD row 0 0) 0 ≡ false).
+      rw e
+      (omega (
+        arith,
+        length-append (be 4 (getD row 0 0)) (signedAt S bag n (drop 2 row)),
+        length-be 4 (getD row 0 0),
+        signed-most n (drop 2 row) held,
+      )))
+      (look (eqb (getD row 0 0) 0))
+
+  pub stamp-most : (place : ℕ) → length (signatureAt S bag place) ≤ S
+  unfolding signatureAt copyAt signatureOf
+  stamp-most place =
+      ⊎-elim
+      (λ (e : eqb place 0 ≡ true). rw e (omega arith))
+      (λ (e : eqb place 0 ≡ false). rw (e, length-take) (omega arith))
+      (look (eqb place 0))
+
+-- ---- all parts
+
+module _ {bag : List ℕ} {p : Plan} {taken : List ℕ} (held : RowsInside bag p taken) (votes : List ℕ) where
+  leader-most : (t : ℕ) → t < p .leaders → length (certificatePart bag p votes taken t) ≤ 17444
+  unfolding certificatePart
+  leader-most t less =
+      certificate-most (p .size) bag (p .replicas) (voteEndAt (p .width) votes t) (rowAt taken t)
+      (rw length-take (omega (arith, held .width))) (row-places held t (omega arith))
+
+  leaders-most : length (leadersPart bag p votes taken) ≤ 17444 * p .leaders
+  leaders-most = joined-most (certificatePart bag p votes taken) 17444 (p .leaders) leader-most
+
+  stamps-most : length (stampsPart bag p taken) ≤ p .size * p .leaders
+  stamps-most =
+      joined-most (λ t. signatureAt (p .size) bag (getD taken (takenSize * t + 1) 0)) (p .size) (p .leaders)
+      (λ t less. stamp-most (p .size) bag (getD taken (takenSize * t + 1) 0))
+
+  pub parts-small : {long : ℕ} → recordSize (p .width) * p .records ≡ long → p .records ≤ 4096
+      → long
+      + (length (leadersPart bag p votes taken)
+      + (length (stampsPart bag p taken) + length (commitPart (p .size) bag (p .replicas) (drop (takenSize * p .leaders) taken))))
+      < 4294967296
+  unfolding recordSize
+  parts-small h few =
+      let wide : p .width + 32 ≤ 40 = omega (arith, held .width) in
+      let records : (p .width + 32) * p .records ≤ 40 * p .records = mul-le-mul-right (p .records) wide in
+      let stamps : p .size * p .leaders ≤ p .size * 64 = mul-le-mul-left (p .size) (held .few) in
+      omega (
+        arith,
+        records,
+        stamps,
+        leaders-most,
+        stamps-most,
+        held .few,
+        held .size,
+        commit-most (p .size) bag (p .replicas) (drop (takenSize * p .leaders) taken) (commit-row-places held),
+      )

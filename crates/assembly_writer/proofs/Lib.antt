@@ -1,0 +1,12 @@
+pub mod Lent
+pub mod Joined
+pub mod Signatures
+pub mod Signed
+pub mod Heads
+pub mod Rows
+pub mod Certified
+pub mod Leads
+pub mod Whole
+pub mod Bounds
+pub mod Lengths
+pub mod Planned

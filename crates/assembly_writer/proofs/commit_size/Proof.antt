@@ -1,0 +1,47 @@
+-- Nothing, or the index, signers and signatures.
+-- Assumes nothing.
+use mathlib.Core.Path.{ap}
+use mathlib.Core.List.{[]}
+use native.Mathlib.Omega.{arith}
+use borrow.Author.Needs.{needs}
+use lib.ListN.{length, getD, drop, length-append}
+use Rattle.words.specs.BigEndian.{be}
+use Rattle.words.proofs.Laws.{part-end, length-be}
+use Rattle.assembly_writer.specs.Parts.{signedAt}
+use Rattle.assembly_writer.proofs.Heads.{commit-none, commit-some}
+use Rattle.assembly_writer.proofs.commit_size.Statement.{statement}
+use Rattle.assembly_writer.proofs.commit_size.Tie as tie
+
+returns : tie.Need-returns
+returns c =
+    let a = c .before .before .before .args in
+    (λ bag held. commit-none (a .plan .size) bag (a .plan .replicas) (a .row .now) [] (c .if1 .taken) .0, omega arith)
+
+returns-2 : tie.Need-returns-2
+returns-2 c =
+    let branch = c .before .before in
+    let a = branch .before .before .before .args in
+    let long = rw (part-end (a .row .now) 2) at (c .signed-size .ensures .0) in (
+      λ bag held.
+          omega (
+            arith,
+            long bag held,
+            ap length (commit-some (a .plan .size) bag (a .plan .replicas) (a .row .now) [] (branch .if1 .left)),
+            length-append (be 4 (getD (a .row .now) 0 0)) (signedAt (a .plan .size) bag (a .plan .replicas) (drop 2 (a .row .now))),
+            length-be 4 (getD (a .row .now) 0 0),
+          ),
+      omega (arith, c .signed-size .ensures .1),
+    )
+
+pub commit-size-spec : {M : Type 1} → statement M
+commit-size-spec =
+    tie.close
+    (tie.spec
+    (λ c. search needs)
+    returns
+    (λ c. search needs)
+    (λ c. search needs)
+    (λ c. search needs)
+    (λ c κs. search needs)
+    (λ c. search needs)
+    returns-2)
