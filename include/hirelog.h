@@ -1,6 +1,7 @@
 /*
- * The C interface of libhirelog.a, for x86-64 Linux. A call needs some 35,000 bytes of stack. The
- * library allocates nothing, and calls no function but memcpy and memset.
+ * The C interface of libhirelog.a, for x86-64 Linux. A call needs at most 65,536 bytes of stack;
+ * docs/C.md has what was measured. The library allocates nothing, and calls no function but memcpy
+ * and memset.
  */
 #ifndef HIRELOG_H
 #define HIRELOG_H
@@ -30,10 +31,13 @@ extern "C" {
 /* The bytes of the longest report of a district's run: a buffer of so many always does. */
 #define HIRELOG_DISTRICT_REPORT_MAX 13
 
+/* The bytes of the longest submission that is assembled: an output of so many always does. */
+#define HIRELOG_ASSEMBLED_MAX 1404446
+
 /*
  * The numbers that a function returns. docs/C.md says what each means and what to do about it, in
- * the words of document 01 (What stops an audit); 17 and 18 are document 02's (W1), in our words.
- * docs/NUMBERS.md has the list that these and the rules below are held to.
+ * the words of document 01 (What stops an audit); 17 and 18 are document 02's (W1), as are 19 to 21
+ * (W3), in our words. docs/NUMBERS.md has the list that these and the rules below are held to.
  */
 #define HIRELOG_OK 0
 #define HIRELOG_SHORT_REPORT 1
@@ -54,6 +58,9 @@ extern "C" {
 #define HIRELOG_LONG_MESSAGE 16
 #define HIRELOG_LENGTH_COUNT 17
 #define HIRELOG_LENGTH_SUM 18
+#define HIRELOG_ITEM 19
+#define HIRELOG_NO_LEADER 20
+#define HIRELOG_SHORT_OUTPUT 21
 
 /* The rules, as a report's row has them; hirelog_audit below says what each is. */
 #define HIRELOG_RULE_TWO_VOTES 1
@@ -207,6 +214,68 @@ uint32_t hirelog_audit(const uint8_t *roster, size_t roster_len, const uint8_t *
 uint32_t hirelog_district(const uint8_t *roster, size_t roster_len, const uint8_t *buffer,
                           size_t buffer_len, const uint32_t *lengths, size_t count,
                           uint8_t *report, size_t report_len);
+
+/* What a call returns that writes bytes whose length the caller does not know beforehand. */
+struct hirelog_written {
+    uint32_t number; /* HIRELOG_OK, or why nothing was written */
+    size_t length;   /* the bytes written, from the output's first on; 0 with another number */
+};
+
+/*
+ * Assembles a submission (document 02, W3) of a log and the signatures for it that items have.
+ *
+ * The log has records of 36 bytes, one after the other, as a submission has them: term (4 bytes),
+ * payload digest. An item is a replica's number (2 bytes), a statement that it signed, and the
+ * signature. The statement is a stamp or a receipt (kinds 1 and 2, 57 bytes) or a vote (kind 3, 63
+ * bytes), as document 01 has them (Chain and statements); the signature has the length that the
+ * roster's keys give it, 1,132 + 32 x h bytes for trees of height h. Items stand one after the
+ * other, in any order, as many as there are (document 02's bag). All numbers are big-endian.
+ *
+ * Returns HIRELOG_OK and a length if the submission is written; else length 0, and the first of
+ * these numbers that applies, in this order:
+ *   2 to 4                for the roster, as in hirelog_audit;
+ *   HIRELOG_COUNTS        if the log ends inside a record, or has more than 4,096 records or 64
+ *                         different terms: lend whole records, as many as a submission may have;
+ *   HIRELOG_TERM_ORDER    if a record's term is 0 or below the one before: lend the log as it was
+ *                         kept by a replica;
+ *   HIRELOG_ITEM          if the last item is cut short, or the kind of an item is not 1, 2 or 3,
+ *                         whatever cluster or replica it is of: lend whole items, without anything
+ *                         between them, with signatures of the roster's length;
+ *   HIRELOG_NO_LEADER     if the items do not show who led some term of the log: lend more of them,
+ *                         or fewer records. It is told also where the output is too short;
+ *   HIRELOG_SHORT_OUTPUT  if output_len is below the length of the submission: lend
+ *                         HIRELOG_ASSEMBLED_MAX bytes, which always do.
+ * No other number is returned.
+ *
+ * With any number but HIRELOG_OK nothing is written. With HIRELOG_OK the submission stands in the
+ * first length bytes at output, and the others are left as they were. hirelog_audit and
+ * hirelog_district accept it against the same roster, and its log is the one that was lent. It has
+ *   - for each term of the log a leader certificate. Its candidate is the lowest-numbered replica
+ *     that has a quorum of votes which fit the log, its own among them, and a good stamp on the
+ *     term's last record; it has the votes for this candidate of all replicas;
+ *   - for each term that candidate's stamp;
+ *   - a commit certificate for the highest index at which a quorum of replicas has receipts which
+ *     fit the log, with those of all replicas; none if there is no such index.
+ * Votes, stamps and receipts are those of good items. Passed over are items with another cluster's
+ * name, of a number that no replica of the roster has, with a bad signature, or on a statement that
+ * does not fit the log. Of several good ones of one replica on one statement the first counts. An
+ * empty log gives the submission of a trailer alone, whatever the items are, if they are whole and
+ * of known kinds.
+ *
+ * The caller sees to it that
+ *   - roster points to roster_len readable bytes, log to log_len, items to items_len, and output to
+ *     output_len writable ones; each of the four may be NULL where its length is 0;
+ *   - the output overlaps none of the other three, which may overlap each other;
+ *   - no other thread writes any of the four, or reads the output, during the call.
+ * No pointer has to be aligned, and items_len has no limit.
+ *
+ * The roster, the log and the items are never changed, no byte outside the four is read, and of the
+ * output no byte after the first length is written. No state is kept from one call to the next, so
+ * several threads may call this at the same time, each with an output of its own.
+ */
+struct hirelog_written hirelog_assemble(const uint8_t *roster, size_t roster_len,
+                                        const uint8_t *log, size_t log_len, const uint8_t *items,
+                                        size_t items_len, uint8_t *output, size_t output_len);
 
 #ifdef __cplusplus
 }

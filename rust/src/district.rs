@@ -1,7 +1,8 @@
 //! A district's run, over two to nine submissions at once (document 02, W1), and its report.
 
 use crate::numbers::Number;
-use crate::{sys, Refusal, REPLICAS, SUBMISSION_MAX};
+use crate::report::replicas_of;
+use crate::{sys, Refusal, SUBMISSION_MAX};
 use std::fmt;
 
 /// The most submissions of a run.
@@ -144,8 +145,7 @@ pub fn read_district_report(bytes: &[u8], count: usize) -> Option<District> {
         };
         refusals.push(refusal);
     }
-    let mask = u16::from_be_bytes([after[0], after[1]]);
-    let named = (1..=REPLICAS).filter(|replica| mask >> (replica - 1) & 1 == 1).collect();
+    let named = replicas_of(u16::from_be_bytes([after[0], after[1]]));
     let fork = match (usize::from(after[2]), usize::from(after[3])) {
         (0, 0) => None,
         (lower, higher) if 0 < lower && lower < higher && higher <= count => Some((lower, higher)),

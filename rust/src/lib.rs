@@ -1,25 +1,28 @@
 //! A safe wrapper of libhirelog.a: its services over slices, with plain values as answers.
 //!
-//! `include/hirelog.h` has each service's rules, and document 01 what they mean; document 02 (W1)
-//! for a district's run.
+//! `include/hirelog.h` has each service's rules, and document 01 what they mean; document 02 for a
+//! district's run (W1) and for the assembling of a submission (W3).
 
+mod assemble;
 mod district;
 pub mod numbers;
 mod report;
 pub mod rules;
+mod submission;
 pub mod sys;
 
+pub use assemble::{assemble, assemble_into, AssembleRefused, ASSEMBLED_MAX};
 pub use district::{
     district, district_into, read_district_report, District, DistrictRefused, DISTRICT_MAX,
     DISTRICT_REPORT_MAX,
 };
 pub use report::{read_report, Charge, Findings, Place, Refusal, Refused, REPLICAS, REPORT_SIZE};
+pub use submission::{
+    read_submission, Commit, Contents, Leader, RECORD_SIZE, SUBMISSION_MAX, SUBMISSION_MIN,
+};
 
 /// The longest message, in bytes, that is given a digest or has its signature checked.
 pub const MESSAGE_MAX: usize = 16_777_216;
-
-/// The longest submission, in bytes, that is not refused for its size.
-pub const SUBMISSION_MAX: usize = 2_097_152;
 
 /// What a signature check says.
 #[derive(Clone, Copy, Debug, PartialEq, Eq)]

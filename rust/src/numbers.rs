@@ -1,6 +1,6 @@
-//! The numbers of document 01 (What stops an audit) and of document 02 (W1: 17 and 18), in one table:
-//! what each is called, what it means, and what to do about it. docs/C.md has the same for callers
-//! in C.
+//! The numbers of document 01 (What stops an audit) and of document 02 (W1: 17 and 18; W3: 19 to 21),
+//! in one table: what each is called, what it means, and what to do about it. docs/C.md has the same
+//! for callers in C.
 
 /// A number that a service answers.
 #[derive(Clone, Copy, Debug, PartialEq, Eq)]
@@ -8,7 +8,7 @@ pub struct Number {
     pub number: u32,
     /// Its name in include/hirelog.h.
     pub name: &'static str,
-    /// Document 01's word, as its table has it; those of 17 and 18 are ours.
+    /// Document 01's word, as its table has it; those of 17 to 21 are ours.
     pub word: &'static str,
     pub meaning: &'static str,
     pub advice: &'static str,
@@ -180,16 +180,45 @@ pub const NUMBERS: &[Number] = &[
         advice: "Only a program that calls the library can get this: it has to lend the length \
             of each submission, in bytes, and the buffer with the length of all together.",
     },
+    Number {
+        number: 19,
+        name: "HIRELOG_ITEM",
+        word: "item",
+        meaning: "The items end inside an item, or the kind of an item is not 1, 2 or 3 (stamp, \
+            receipt or vote).",
+        advice: "Copy the items again from where they came. If that does not help, see that they \
+            follow each other with nothing between, and that all their signatures have the length \
+            of the roster's keys: leave out those of a district with other keys.",
+    },
+    Number {
+        number: 20,
+        name: "HIRELOG_NO_LEADER",
+        word: "no leader",
+        meaning: "The items do not show who led a term of the log: no board has good votes of a \
+            quorum for it, its own among them, that fit the log, and a good stamp on the term's \
+            last record.",
+        advice: "Bring in more votes and stamps of that term. If the items should be there, see \
+            that the log is the one that was voted on and stamped, and that the roster is the \
+            district's present one.",
+    },
+    Number {
+        number: 21,
+        name: "HIRELOG_SHORT_OUTPUT",
+        word: "short output",
+        meaning: "The submission is longer than the buffer for it, and nothing was written.",
+        advice: "Only a program that calls the library can get this: 1,404,446 bytes are always \
+            enough.",
+    },
 ];
 
 #[cfg(test)]
 mod tests {
     use super::*;
 
-    /// Each number from 0 to 18 has a row, at its place, with its texts; names and words differ.
+    /// Each number from 0 to 21 has a row, at its place, with its texts; names and words differ.
     #[test]
     fn rows() {
-        assert_eq!(NUMBERS.len(), 19);
+        assert_eq!(NUMBERS.len(), 22);
         for (number, row) in (0..).zip(NUMBERS) {
             assert_eq!(row.number, number);
             assert_eq!(Number::of(number), Some(row));
@@ -201,6 +230,6 @@ mod tests {
             let alike = |other: &&Number| other.name == row.name || other.word == row.word;
             assert_eq!(NUMBERS.iter().filter(alike).count(), 1, "{number}");
         }
-        assert_eq!(Number::of(19), None);
+        assert_eq!(Number::of(22), None);
     }
 }

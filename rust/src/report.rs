@@ -134,7 +134,12 @@ pub fn read_report(bytes: &[u8; REPORT_SIZE]) -> Option<Result<Findings, Refused
     Some(Ok(Findings { fork: (fork != 0).then_some(fork), charges }))
 }
 
-fn u32_at(bytes: &[u8], at: usize) -> u32 {
+/// The replicas of a mask, rising: bit k - 1, counted from the lowest, is replica k.
+pub(crate) fn replicas_of(mask: u16) -> Vec<usize> {
+    (1..=16).filter(|replica| mask >> (replica - 1) & 1 == 1).collect()
+}
+
+pub(crate) fn u32_at(bytes: &[u8], at: usize) -> u32 {
     u32::from_be_bytes(bytes[at..at + 4].try_into().expect("four bytes"))
 }
 

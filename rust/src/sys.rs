@@ -6,12 +6,25 @@ pub const SHORT_REPORT: u32 = 1;
 pub const LONG_MESSAGE: u32 = 16;
 pub const LENGTH_COUNT: u32 = 17;
 pub const LENGTH_SUM: u32 = 18;
+pub const ITEM: u32 = 19;
+pub const NO_LEADER: u32 = 20;
+pub const SHORT_OUTPUT: u32 = 21;
 
 /// What a `Charge` has as its rule.
 pub const RULE_TWO_VOTES: u8 = 1;
 pub const RULE_TWO_STAMPS: u8 = 2;
 pub const RULE_STALE_VOTE: u8 = 3;
 pub const RULE_STALE_VOTE_EXCHANGED: u8 = 4;
+
+/// What a call returns that writes bytes whose length the caller does not know beforehand: struct
+/// hirelog_written.
+#[repr(C)]
+#[derive(Clone, Copy, Debug, PartialEq, Eq)]
+pub struct Written {
+    pub number: u32,
+    /// The bytes written, from the output's first on; 0 with any number but 0.
+    pub length: usize,
+}
 
 #[link(name = "hirelog", kind = "static")]
 extern "C" {
@@ -47,4 +60,15 @@ extern "C" {
         report: *mut u8,
         report_len: usize,
     ) -> u32;
+
+    pub fn hirelog_assemble(
+        roster: *const u8,
+        roster_len: usize,
+        log: *const u8,
+        log_len: usize,
+        items: *const u8,
+        items_len: usize,
+        output: *mut u8,
+        output_len: usize,
+    ) -> Written;
 }

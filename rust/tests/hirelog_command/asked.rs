@@ -52,7 +52,8 @@ impl<F: AsRef<OsStr>> Asked<'_, F> {
         assert!(explained.out.starts_with(&format!("{lines}\nWhat ")), "{explained:?}");
         let short = |line: &str| line.chars().count() <= 80 || line.contains('/');
         assert!(explained.out.lines().all(short), "{explained:?}");
-        let words = ["refusal", "submission", "fork", "board"];
+        let words =
+            ["refusal", "submission", "fork", "board", "length", "records", "term", "commit"];
         let like_a_line = |line: &str| words.iter().any(|word| line.starts_with(word));
         assert!(!explained.out[lines.len()..].lines().any(like_a_line), "{explained:?}");
         let text = explained.unfolded();

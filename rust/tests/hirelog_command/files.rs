@@ -9,10 +9,13 @@ use std::os::unix::process::CommandExt;
 fn in_each_place(file: &Path) -> Vec<Vec<PathBuf>> {
     let [roster, first, second] = sample("one_leader");
     let mut runs = vec![vec!["sha256".into(), file.into()]];
-    for name in ["audit", "district", "check"] {
+    for name in ["audit", "district", "check", "assemble"] {
         for place in 1..=3 {
             let mut arguments = vec![name.into(), roster.clone(), first.clone(), second.clone()];
             arguments[place] = file.into();
+            if name == "assemble" {
+                arguments.extend(["-o".into(), "/dev/null".into()]);
+            }
             runs.push(arguments);
         }
     }
@@ -235,5 +238,29 @@ fn full_disk() {
     let full = fs::OpenOptions::new().write(true).open("/dev/full").expect("/dev/full");
     let mut run = command(&["audit".into(), repository("samples/one_leader")]);
     run.stdout(full);
-    Run::of(run.output().expect("runs")).fails(74, &["the answer cannot be written"]);
+    let run = Run::of(run.output().expect("runs"));
+    run.fails(74, &["the answer cannot be written"]);
+    assert!(run.err.ends_with(")\n"), "{run:?}");
+}
+
+/// The same of a command that writes a file: it is there if it was assembled, and that is said.
+#[test]
+fn full_disk_assembling() {
+    let folder = Folder::new("full_disk_assembling");
+    let [made, refused] = ["made", "refused"].map(|name| folder.0.join(name));
+    let sample = repository("samples/assemble");
+    let run = |items: &Path, output: &Path| {
+        let full = fs::OpenOptions::new().write(true).open("/dev/full").expect("/dev/full");
+        let [roster, log] = ["roster", "log"].map(|name| sample.join(name));
+        let mut run = command(&["assemble"]);
+        run.args([&roster, &log, items, Path::new("-o"), output]).stdout(full);
+        Run::of(run.output().expect("runs"))
+    };
+    let told = format!("); {} is written\n", quoted(&made));
+    run(&sample.join("items"), &made).fails(74, &["the answer cannot be written (", &told]);
+    let submission = fs::read(sample.join("submission")).expect("a sample");
+    assert!(fs::read(&made).expect("a file") == submission);
+    let without = run(Path::new("/dev/null"), &refused);
+    without.fails(74, &["the answer cannot be written ("]);
+    assert!(!without.err.contains("is written") && !refused.exists(), "{without:?}");
 }

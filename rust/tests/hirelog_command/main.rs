@@ -1,7 +1,10 @@
 //! The command hirelog, run on the samples, on files that are wrong in every way, and with wrong
 //! uses.
 
+#[path = "../apart/mod.rs"]
+mod apart;
 mod asked;
+mod assemble;
 mod audit;
 mod check;
 mod digest;

@@ -4,19 +4,19 @@ use crate::*;
 
 #[test]
 fn wrong_uses() {
-    let uses: [(&[&str], &str); 24] = [
-        (&[], "name a command: audit, district, check, sha256"),
-        (&["adit", "x"], "there is no command \"adit\", but audit, district, check, sha256"),
+    let uses: [(&[&str], &str); 36] = [
+        (&[], "name a command: audit, district, assemble, check, sha256"),
+        (&["adit", "x"], "no command \"adit\", but audit, district, assemble, check, sha256"),
         (&[""], "there is no command \"\""),
         (&["--explain", "audit", "x"], "stand after the command: hirelog audit --explain x\n"),
         (&["--json", "--", "check", "x y", "-"], ": hirelog check --json -- 'x y' -\n"),
         (
             &["--explain"],
-            "options stand after the command: name one first: audit, district, check, sha256",
+            "options stand after the command: name one first: audit, district, assemble, check,",
         ),
         (&["--explain", "x"], "options stand after the command: name one first"),
         (&["--loud", "audit", "x"], "there is no option \"--loud\""),
-        (&["help", "adit"], "there is no command \"adit\", but audit, district, check, sha256"),
+        (&["help", "adit"], "no command \"adit\", but audit, district, assemble, check, sha256"),
         (&["audit", "-"], "standard input is not read, but /dev/stdin can be named"),
         (&["check", "a", "-", "b"], "standard input is not read, but /dev/stdin can be named"),
         (&["sha256", "-"], "standard input is not read, but /dev/stdin can be named"),
@@ -30,6 +30,24 @@ fn wrong_uses() {
         (&["check", "--json", "a", "b", "c", "d"], "and 4 names were given"),
         (&["district"], "hirelog district takes FOLDER or ROSTER FILE.., and 0 names were given"),
         (&["district", "a", "b", "-x"], "there is no option \"-x\""),
+        (&["assemble", "a", "b", "c"], "hirelog assemble writes a file: name it by -o FILE\n"),
+        (&["assemble", "-o", "x"], "FOLDER -o FILE or ROSTER LOG ITEMS -o FILE, and 0 names were"),
+        (&["assemble", "a", "-o", "x", "b"], "and 2 names were given"),
+        (&["assemble", "a", "-o"], "-o needs the name of a file after it\n"),
+        (&["assemble", "a", "-o", "x", "-o", "y"], "-o stands there twice"),
+        (
+            &["assemble", "a", "-o", "--json"],
+            "\"--json\" is an option (a file of this name is ./--",
+        ),
+        (&["assemble", "a", "-o", "-"], "\"-\" names no file: nothing but lines is printed"),
+        (&["assemble", "a", "-o", "/dev/stdout"], "\"/dev/stdout\" names no file: nothing but lin"),
+        (&["assemble", "a", "-o", "/dev/fd/1"], "\"/dev/fd/1\" names no file: nothing but lines"),
+        (&["assemble", "a", "-o", ""], "a file's name is empty"),
+        (
+            &["assemble", "--", "a", "-o", "x"],
+            "-o after -- counts as a name: put -o FILE before --\n",
+        ),
+        (&["audit", "a", "-o", "x"], "there is no option \"-o\""),
         (&["sha256"], "hirelog sha256 takes FILE, and 0 names were given"),
         (&["sha256", "a", "b"], "and 2 names were given"),
     ];
@@ -82,8 +100,10 @@ fn help() {
     let check = ["hirelog check [--explain] [--json] KEY MESSAGE SIGNATURE", "good", "bad"];
     let digest = ["hirelog sha256 [--explain] [--json] FILE"];
     let district = ["hirelog district [--explain] [--json] FOLDER", "[--json] ROSTER FILE.."];
-    let all = [&audit[..], &district, &check[..1], &digest].concat();
-    let helps: [(&[&str], &[&str], &[u8]); 11] = [
+    let assemble = ["hirelog assemble [--explain] [--json] FOLDER -o", "ROSTER LOG ITEMS -o FILE"];
+    let all = [&audit[..], &district, &assemble, &check[..1], &digest].concat();
+    let writes = [&assemble[..], &["  -o FILE    "]].concat();
+    let helps: [(&[&str], &[&str], &[u8]); 13] = [
         (&["--help"], &all, &[0, 1, 2]),
         (&["-h"], &all, &[0, 1, 2]),
         (&["help"], &all, &[0, 1, 2]),
@@ -92,6 +112,8 @@ fn help() {
         (&["audit", "--help"], &audit, &[0, 1, 2]),
         (&["help", "district"], &district, &[0, 1, 2]),
         (&["district", "a", "--help"], &district, &[0, 1, 2]),
+        (&["help", "assemble"], &writes, &[0, 2]),
+        (&["assemble", "-o", "x", "-h"], &writes, &[0, 2]),
         (&["check", "--help"], &check, &[0, 2]),
         (&["sha256", "--help"], &digest, &[0, 2]),
         (&["audit", "a", "b", "-h"], &audit, &[0, 1, 2]),

@@ -5,14 +5,14 @@ use crate::json;
 /// Exit statuses. 64 and 74 are those of sysexits.h.
 #[derive(Clone, Copy, Debug, PartialEq, Eq)]
 pub enum Status {
-    /// Number 0, and no replica named.
+    /// Number 0, and no replica named; or a submission written.
     NothingFound = 0,
     /// Number 0, and a replica named.
     Named = 1,
     /// Any other number; of a district's run also that of a submission, with no replica named.
     Refused = 2,
     Usage = 64,
-    /// A file that cannot be read, or an answer that cannot be written.
+    /// A file that cannot be read, or a file or an answer that cannot be written.
     Unreadable = 74,
 }
 

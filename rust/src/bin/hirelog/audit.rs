@@ -2,11 +2,10 @@
 
 use crate::answer::{Answer, Failure, RefusedFile, Remark, Status};
 use crate::files::{grouped, in_folder, read_all, Input};
-use crate::formats::SUBMISSION_MIN;
-use crate::usage::{wrong_count, Command};
-use crate::{district, hints, json};
+use crate::usage::{wrong_count, Command, Run};
+use crate::{assemble, district, hints, json};
 use hirelog::numbers::Number;
-use hirelog::{Findings, Place, Refusal, Refused, SUBMISSION_MAX};
+use hirelog::{Findings, Place, Refusal, Refused, SUBMISSION_MAX, SUBMISSION_MIN};
 use std::path::PathBuf;
 
 pub const COMMAND: Command = Command {
@@ -35,7 +34,7 @@ the first is told.
         (Status::Named, "a board is named"),
         (Status::Refused, "the roster or a submission was refused"),
     ],
-    run,
+    run: Run::Reads(run),
 };
 
 /// The files of an audit, as the folder has them.
@@ -53,6 +52,7 @@ fn run(operands: &[PathBuf]) -> Result<Answer, Failure> {
     let paths = match operands {
         [folder] => in_folder(folder, FILES, INSTEAD).map_err(|mut failure| {
             failure.messages.extend(hints::other_folder(folder, &district::FILES, "district"));
+            failure.messages.extend(hints::other_folder(folder, &assemble::FILES, "assemble"));
             failure
         })?,
         [roster, first, second] => [roster.clone(), first.clone(), second.clone()],

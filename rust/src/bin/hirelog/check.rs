@@ -3,7 +3,7 @@
 use crate::answer::{Answer, Failure, RefusedFile, Remark, Status};
 use crate::files::{read_all, Input};
 use crate::formats::{looks_like_roster, KEY_SIZE};
-use crate::usage::{wrong_count, Command};
+use crate::usage::{wrong_count, Command, Run};
 use crate::{hints, json};
 use hirelog::numbers::Number;
 use hirelog::{lms_check, sys, Refusal, Verdict, MESSAGE_MAX};
@@ -26,7 +26,7 @@ was signed, SIGNATURE the signature. It prints one line:
         (Status::NothingFound, "good"),
         (Status::Refused, "bad, or the message is too long (numbers 15 and 16)"),
     ],
-    run,
+    run: Run::Reads(run),
 };
 
 /// The files of a check.
@@ -133,12 +133,10 @@ fn bad_hints(files: &[Input; 3]) -> Vec<String> {
 
 /// The order in which the files are good, if there is one.
 fn right_order(files: &[Input; 3]) -> Option<String> {
-    let orders = [[0, 2, 1], [1, 0, 2], [1, 2, 0], [2, 0, 1], [2, 1, 0]];
-    let mut ordered = orders.into_iter().map(|order| order.map(|place| &files[place]));
     let good = |[key, message, signature]: &[&Input; 3]| {
         lms_check(&key.bytes, &message.bytes, &signature.bytes) == Verdict::Good
     };
-    let [key, message, signature] = ordered.find(good)?.map(Input::name);
+    let [key, message, signature] = hints::in_other_orders(files).find(good)?.map(Input::name);
     Some(format!(
         "the files are in the wrong order: with the key {key}, the message {message} and the \
          signature {signature} it is good"

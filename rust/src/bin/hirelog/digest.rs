@@ -5,7 +5,7 @@ use crate::check::too_long;
 use crate::files::{read_all, Input};
 use crate::formats::hex;
 use crate::json;
-use crate::usage::{wrong_count, Command};
+use crate::usage::{wrong_count, Command, Run};
 use hirelog::numbers::Number;
 use hirelog::{sha256, sys, MESSAGE_MAX};
 use std::os::unix::ffi::OsStrExt;
@@ -24,7 +24,7 @@ bytes it prints no line.
         (Status::NothingFound, "the digest is printed"),
         (Status::Refused, "the file is too long (number 16)"),
     ],
-    run,
+    run: Run::Reads(run),
 };
 
 /// The digest of a file. One that is longer than a message may be gets number 16.

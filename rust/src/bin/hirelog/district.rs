@@ -3,8 +3,8 @@
 use crate::answer::{Answer, Failure, RefusedFile, Remark, Status};
 use crate::audit::{self, joined, number_remark, which_side};
 use crate::files::{in_folder, list, read_each, unreadable, Input};
-use crate::usage::{written, wrong_count, Command};
-use crate::{hints, json};
+use crate::usage::{written, wrong_count, Command, Run};
+use crate::{assemble, hints, json};
 use hirelog::numbers::Number;
 use hirelog::{District, DistrictRefused, Refusal, DISTRICT_MAX, SUBMISSION_MAX};
 use std::io;
@@ -39,7 +39,7 @@ message says why a submission was refused, also where a board is named.
         (Status::Named, "a board is named, also where a submission was refused"),
         (Status::Refused, "no board is named, and the run or a submission was refused"),
     ],
-    run,
+    run: Run::Reads(run),
 };
 
 /// The first files of a run, as the folder has them; the submissions go on with 3.
@@ -97,6 +97,7 @@ fn numbered(folder: &Path) -> Result<(Vec<PathBuf>, Vec<String>), Failure> {
             failure.messages.push("a run takes two submissions at least, 1 and 2".into());
         }
         failure.messages.extend(hints::other_folder(folder, &audit::FILES, "audit"));
+        failure.messages.extend(hints::other_folder(folder, &assemble::FILES, "assemble"));
         failure
     })?;
     let failure = |message: String| Failure { status: Status::Unreadable, messages: vec![message] };

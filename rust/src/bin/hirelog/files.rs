@@ -1,8 +1,11 @@
-//! Reading the files of a command; what cannot be read is said in words for who has to mend it.
+//! Reading the files of a command, and writing one; what cannot be read or written is said in words
+//! for who has to mend it.
 
 use crate::answer::{Failure, Status};
-use std::fs::File;
-use std::io::{self, ErrorKind, Read};
+use std::ffi::OsString;
+use std::fs::{self, File, OpenOptions};
+use std::io::{self, ErrorKind, Read, Write};
+use std::os::unix::fs::MetadataExt;
 use std::path::{Path, PathBuf};
 
 /// A file as it was read. Of a file above the library's limit one byte more than the limit is kept,
@@ -146,6 +149,76 @@ pub fn unreadable(path: &Path, error: &io::Error) -> String {
              the spelling"
         ),
         _ => format!("{path:?} cannot be read ({error}): copy it again from where it came"),
+    }
+}
+
+/// Whether both names are those of one file, by links or otherwise, that is no device or the like.
+pub fn one_file(a: &Path, b: &Path) -> bool {
+    let id = |path: &Path| {
+        let found = path.metadata().ok().filter(|found| found.is_file())?;
+        Some((found.dev(), found.ino()))
+    };
+    id(a).is_some_and(|a| id(b) == Some(a))
+}
+
+/// Writes a file: whole, or it is left as it was, and it is said why. Until all bytes are there they
+/// stand in a new file beside it. What is no file, such as a device, is written as it is.
+pub fn write_whole(path: &Path, bytes: &[u8]) -> Result<(), Failure> {
+    let written = match path.metadata() {
+        Ok(found) if found.is_dir() => {
+            let why = format!("{path:?} is a folder, and a file is to be written: name one in it");
+            return Err(Failure { status: Status::Unreadable, messages: vec![why] });
+        }
+        // Asked, since a file that may not be written can be replaced all the same.
+        Ok(found) => OpenOptions::new().write(true).open(path).and_then(|mut old| {
+            if !found.is_file() {
+                return old.write_all(bytes);
+            }
+            replace(&path.canonicalize()?, bytes, Some(found.permissions()))
+        }),
+        Err(_) if path.as_os_str().as_encoded_bytes().ends_with(b"/") => {
+            let why = format!(
+                "{path:?} names a folder, and a file is to be written: leave out the last /"
+            );
+            return Err(Failure { status: Status::Unreadable, messages: vec![why] });
+        }
+        Err(_) => replace(path, bytes, None),
+    };
+    written.map_err(|error| {
+        let messages = vec![unwritable(path, &error)];
+        Failure { status: Status::Unreadable, messages }
+    })
+}
+
+/// Puts a new file in the place of this one, if there is one.
+fn replace(path: &Path, bytes: &[u8], mode: Option<fs::Permissions>) -> io::Result<()> {
+    let mut name = path.file_name().map_or(OsString::new(), OsString::from);
+    name.push(format!(".part-{}", std::process::id()));
+    let part = path.with_file_name(name);
+    let mut file = OpenOptions::new().write(true).create_new(true).open(&part)?;
+    let written = file
+        .write_all(bytes)
+        .and_then(|()| mode.map_or(Ok(()), |mode| file.set_permissions(mode)))
+        .and_then(|()| file.sync_all())
+        .and_then(|()| fs::rename(&part, path));
+    if written.is_err() {
+        // What stands there is no use to anybody; where it cannot be removed, its name says so.
+        let _ = fs::remove_file(&part);
+    }
+    written
+}
+
+fn unwritable(path: &Path, error: &io::Error) -> String {
+    match error.kind() {
+        ErrorKind::NotFound => format!(
+            "{path:?} cannot be written, for there is no such folder: look at the spelling, and \
+             whether its disk or stick is there"
+        ),
+        ErrorKind::PermissionDenied => format!(
+            "{path:?} may not be written (permission denied): name another file, or ask whoever \
+             looks after this machine to let you write it"
+        ),
+        _ => format!("{path:?} cannot be written ({error}): name a file in another place"),
     }
 }
 

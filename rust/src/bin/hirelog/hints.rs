@@ -1,13 +1,13 @@
 //! What may have gone wrong with the files: empty, in each other's places, of different districts,
-//! the same twice.
+//! the same twice, broken off.
 //! A hint is a sentence without its full stop.
 
 use crate::answer::once;
-use crate::files::{counted, grouped, list, Input};
-use crate::formats::{
-    self, looks_like_roster, looks_like_submission, REPLICA_COUNTS, SUBMISSION_MIN,
-};
-use hirelog::{District, DistrictRefused, Place, Refusal, Refused, REPLICAS};
+use crate::assemble;
+use crate::files::{counted, grouped, list, one_file, Input};
+use crate::formats::{self, looks_like_roster, looks_like_submission, Broken, REPLICA_COUNTS};
+use hirelog::{read_submission, sys, AssembleRefused, District, DistrictRefused, Place, Refusal};
+use hirelog::{Refused, RECORD_SIZE, REPLICAS, SUBMISSION_MIN};
 use std::path::Path;
 
 /// Which of the files are empty.
@@ -21,6 +21,12 @@ pub fn empty(files: &[Input]) -> Option<String> {
             Some(format!("{} are empty: copy them again from where they came", list(&names, "and")))
         }
     }
+}
+
+/// Three files in each order but their own.
+pub fn in_other_orders(files: &[Input; 3]) -> impl Iterator<Item = [&Input; 3]> {
+    let orders = [[0, 2, 1], [1, 0, 2], [1, 2, 0], [2, 0, 1], [2, 1, 0]];
+    orders.into_iter().map(|order| order.map(|place| &files[place]))
 }
 
 /// For an audit that was refused: roster, first and second as they were given.
@@ -73,6 +79,112 @@ pub fn district(files: &[Input], found: &District) -> Vec<String> {
     }
     hints.extend(same_bytes(submissions));
     hints
+}
+
+/// For a submission that was not assembled: roster, log and items as they were given. Files in
+/// another order, or one in two places, are certain, and then the only hint.
+pub fn refused_assembling(files: &[Input; 3], refused: &AssembleRefused) -> Vec<String> {
+    let [roster, log, items] = files;
+    if let Some(twice) = named_twice(files) {
+        return vec![twice];
+    }
+    if *refused != AssembleRefused::NoLeader {
+        if let Some(order) = assembling_order(files) {
+            return vec![order];
+        }
+    }
+    let mut hints: Vec<String> = empty(files).into_iter().collect();
+    match refused {
+        AssembleRefused::Roster(Refusal::RosterSize) => {
+            match looks_like_submission(&roster.bytes) {
+                true => hints.extend(misplaced(roster, &[])),
+                false => hints.extend(roster_count(roster)),
+            }
+        }
+        AssembleRefused::Log(_) => hints.extend(submission_as_log(log)),
+        AssembleRefused::Item | AssembleRefused::NoLeader
+            if looks_like_submission(&items.bytes) =>
+        {
+            hints.push(format!("{} looks like a submission, not items", items.name()));
+        }
+        AssembleRefused::Item => hints.extend(broken_item(roster, items)),
+        AssembleRefused::NoLeader => hints.extend(strange_items(roster, items)),
+        AssembleRefused::Roster(_) | AssembleRefused::ShortOutput => {}
+    }
+    hints
+}
+
+/// A file that was named in two places, or in all three.
+fn named_twice(files: &[Input; 3]) -> Option<String> {
+    let places = |file: &Input| {
+        let same = files.iter().zip(assemble::FILES);
+        let same = same.filter(|(other, _)| one_file(file.path(), other.path()));
+        same.map(|(_, place)| format!("as {place}")).collect::<Vec<String>>()
+    };
+    let told = |file: &Input| match &places(file)[..] {
+        [] | [_] => None,
+        places => Some(format!("{} is named {}", file.name(), list(places, "and"))),
+    };
+    files.iter().find_map(told)
+}
+
+/// The order of roster, log and items in which none of them is refused by itself, if it is another.
+fn assembling_order(files: &[Input; 3]) -> Option<String> {
+    let readable = |[roster, log, items]: &[&Input; 3]| {
+        let found = hirelog::assemble_into(&roster.bytes, &log.bytes, &items.bytes, &mut []);
+        [sys::NO_LEADER, sys::SHORT_OUTPUT].contains(&found.number)
+    };
+    let [roster, log, items] = in_other_orders(files).find(readable)?.map(Input::name);
+    Some(format!(
+        "the files are in the wrong order: they can be read with the roster {roster}, the log \
+         {log} and the items {items}"
+    ))
+}
+
+/// A submission in the place of a log, which it begins with.
+fn submission_as_log(log: &Input) -> Option<String> {
+    let contents = read_submission(&log.bytes)?;
+    Some(format!(
+        "{} looks like a submission: its log is its first {} alone",
+        log.name(),
+        counted(RECORD_SIZE * contents.records, "byte")
+    ))
+}
+
+/// Where the items break off, and why.
+fn broken_item(roster: &Input, items: &Input) -> Option<String> {
+    let found = formats::items(&items.bytes, formats::roster_signature_size(&roster.bytes)?);
+    let (name, left) = (items.name(), items.bytes.len() - found.end);
+    let (number, before) = (found.whole.len() + 1, counted(found.end, "byte"));
+    let item = format!("item {number} in {name}, which begins after {before},");
+    Some(match found.broken? {
+        Broken::Kind(kind) => format!("{item} has kind {kind}"),
+        Broken::Cut { size } => format!(
+            "{item} would have {} bytes, and {} left: it seems to be cut short",
+            grouped(size),
+            if left == 1 { "1 is".into() } else { format!("{} are", grouped(left)) }
+        ),
+        Broken::Begun => format!(
+            "after {} and {before} {name} has {} more, too few for an item",
+            counted(found.whole.len(), "item"),
+            counted(left, "byte")
+        ),
+    })
+}
+
+/// Items that are all of other districts than the roster.
+fn strange_items(roster: &Input, items: &Input) -> Option<String> {
+    let name = formats::roster_name(&roster.bytes)?;
+    let found = formats::items(&items.bytes, formats::roster_signature_size(&roster.bytes)?);
+    let first = found.whole.first()?;
+    let told = format!(
+        "no item in {} has the roster's cluster name {}; the first has {}: look for the roster of \
+         that district",
+        items.name(),
+        formats::hex(name),
+        formats::hex(first.name())
+    );
+    found.whole.iter().all(|item| item.name() != name).then_some(told)
 }
 
 /// Whether all have one cluster name.

@@ -3,7 +3,7 @@
 use crate::answer::{Answer, Failure, Status};
 use crate::COMMANDS;
 use std::ffi::{OsStr, OsString};
-use std::path::PathBuf;
+use std::path::{Path, PathBuf};
 
 /// A command, and what its help says.
 pub struct Command {
@@ -16,15 +16,23 @@ pub struct Command {
     pub help: &'static str,
     /// What its own exit statuses mean.
     pub statuses: &'static [(Status, &'static str)],
-    /// Comes to an answer on these operands, as many as there are.
-    pub run: fn(&[PathBuf]) -> Result<Answer, Failure>,
+    pub run: Run,
 }
 
-/// How the answer is to be printed.
-#[derive(Clone, Copy, Default)]
+/// How a command comes to an answer on its operands, as many as there are.
+#[derive(Clone, Copy)]
+pub enum Run {
+    Reads(fn(&[PathBuf]) -> Result<Answer, Failure>),
+    /// Takes the file that -o names, too, which it writes.
+    Writes(fn(&[PathBuf], &Path) -> Result<Answer, Failure>),
+}
+
+/// How the answer is to be printed, and the file that -o names.
+#[derive(Default)]
 pub struct Options {
     pub explain: bool,
     pub json: bool,
+    pub output: Option<PathBuf>,
 }
 
 /// What a command line asks for.
@@ -46,17 +54,26 @@ Options:
   --         end the options, before a name that begins with -
 ";
 
+/// For a command that writes a file.
+const OUTPUT_OPTION: &str = "  -o FILE    the file to write; it is replaced if it is there\n";
+
 const VERSION: &str = concat!("hirelog ", env!("CARGO_PKG_VERSION"), "\n");
 
 /// Exit statuses of every command.
 const STATUSES: &[(Status, &str)] = &[
     (Status::Usage, "wrong usage"),
-    (Status::Unreadable, "a file cannot be read, or the answer cannot be written"),
+    (Status::Unreadable, "a file cannot be read or written, or the answer cannot be written"),
 ];
 const STATUSES_END: &str = "\
 With 2, 64 and 74 a message says which file or argument, and why; with 64 and 74
 nothing else is printed.
 ";
+
+/// For a command that writes a file.
+const OUTPUT_STATUS: &str = "With 74, if only the answer could not be written, FILE is there.\n";
+
+/// Names of standard output, which is for the lines.
+const STANDARD_OUTPUT: [&str; 4] = ["-", "/dev/stdout", "/dev/fd/1", "/proc/self/fd/1"];
 
 /// Reads a command line.
 pub fn parse(arguments: &[OsString]) -> Result<Request, Failure> {
@@ -84,9 +101,9 @@ pub fn parse(arguments: &[OsString]) -> Result<Request, Failure> {
         Some(parts) => parts,
         None => return Ok(Request::Print(command.help_text())),
     };
-    if operands.iter().any(|operand| operand.as_os_str().is_empty()) {
+    if operands.iter().chain(&options.output).any(|name| name.as_os_str().is_empty()) {
         let why = "a file's name is empty: is a variable of a script not set?".into();
-        return Err(wrong_usage(why, &command.full_name()));
+        return Err(wrong_use(command, why));
     }
     Ok(Request::Run { command, options, operands })
 }
@@ -164,18 +181,54 @@ fn split(
             options.json = true;
         } else if argument == "--" {
             operands.extend(arguments.by_ref().map(PathBuf::from));
+        } else if argument == "-o" && matches!(command.run, Run::Writes(_)) {
+            let file = output_name(arguments.next()).map_err(|why| wrong_use(command, why))?;
+            if options.output.replace(file).is_some() {
+                let why = "-o stands there twice, and one file is written: name one".into();
+                return Err(wrong_use(command, why));
+            }
         } else if argument == "-" {
             let why =
                 "\"-\" names no file: standard input is not read, but /dev/stdin can be named";
-            return Err(wrong_usage(why.into(), &command.full_name()));
+            return Err(wrong_use(command, why.into()));
         } else if is_option(argument) {
-            let why = format!("there is no option {argument:?}");
-            return Err(wrong_usage(why, &command.full_name()));
+            return Err(wrong_use(command, format!("there is no option {argument:?}")));
         } else {
             operands.push(PathBuf::from(argument));
         }
     }
     Ok(Some((options, operands)))
+}
+
+/// The file that -o names by the argument after it.
+fn output_name(argument: Option<&OsString>) -> Result<PathBuf, String> {
+    match argument {
+        None => Err("-o needs the name of a file after it".into()),
+        Some(name) if STANDARD_OUTPUT.iter().any(|standard| name == standard) => {
+            Err(format!("{name:?} names no file: nothing but lines is printed, so name a file"))
+        }
+        Some(name) if is_option(name) => Err(format!(
+            "-o needs the name of a file after it, and {name:?} is an option (a file of this name \
+             is ./{})",
+            name.to_string_lossy()
+        )),
+        Some(name) => Ok(PathBuf::from(name)),
+    }
+}
+
+/// The file that a command is to write. Only after `--` can -o be among the operands.
+pub fn output<'a>(
+    command: &Command,
+    options: &'a Options,
+    operands: &[PathBuf],
+) -> Result<&'a Path, Failure> {
+    options.output.as_deref().ok_or_else(|| {
+        let why = match operands.iter().any(|operand| operand.as_os_str() == "-o") {
+            true => "-o after -- counts as a name: put -o FILE before --".into(),
+            false => format!("{} writes a file: name it by -o FILE", command.full_name()),
+        };
+        wrong_use(command, why)
+    })
 }
 
 fn is_help(argument: &OsString) -> bool {
@@ -194,6 +247,11 @@ fn wrong_usage(why: String, name: &str) -> Failure {
     Failure { status: Status::Usage, messages: vec![why, format!("for more: {name} --help")] }
 }
 
+/// The failure of a command that is used wrongly.
+pub fn wrong_use(command: &Command, why: String) -> Failure {
+    wrong_usage(why, &command.full_name())
+}
+
 /// The failure of a command that was given another number of operands than it takes.
 pub fn wrong_count(command: &Command, count: usize) -> Failure {
     let forms = command.forms.join(" or ");
@@ -201,7 +259,7 @@ pub fn wrong_count(command: &Command, count: usize) -> Failure {
     // One name has no part too many.
     let quotes = if count > 1 { " (a name with blanks needs quotes)" } else { "" };
     let why = format!("{} takes {forms}, and {count} {names} given{quotes}", command.full_name());
-    wrong_usage(why, &command.full_name())
+    wrong_use(command, why)
 }
 
 /// The help of the whole.
@@ -217,9 +275,9 @@ fn help() -> String {
     text += "\nEach command's --help says what it prints; hirelog --version prints the version.\n";
     text += &format!("\n{OPTIONS}");
     let own = [
-        (Status::NothingFound, "nothing found; a good signature; a digest"),
+        (Status::NothingFound, "nothing found; a submission written; a good signature; a digest"),
         (Status::Named, "a board is named"),
-        (Status::Refused, "a roster, submission, signature or long message was refused"),
+        (Status::Refused, "a roster, submission, log, items, signature or message was refused"),
     ];
     text + &status_text(&own)
 }
@@ -247,7 +305,11 @@ impl Command {
 
     fn help_text(&self) -> String {
         let (usage, statuses) = (self.usage("use: "), status_text(self.statuses));
-        format!("{usage}\n{}\n{OPTIONS}{statuses}", self.help)
+        let (output, end) = match self.run {
+            Run::Writes(_) => (OUTPUT_OPTION, OUTPUT_STATUS),
+            Run::Reads(_) => ("", ""),
+        };
+        format!("{usage}\n{}\n{OPTIONS}{output}{statuses}{end}", self.help)
     }
 }
 
