@@ -19,6 +19,7 @@
  */
 #define _GNU_SOURCE
 #define TOOL "audit_tool"
+#define OUTPUT "report"
 #include "report.h"
 #include "tool.h"
 
@@ -29,28 +30,27 @@ static const char *const input_names[INPUTS] = {"roster", "first submission", "s
 
 static struct answer call_library(const uint8_t *const lent[INPUTS], uint8_t *report)
 {
-    struct answer answer = {0};
+    struct answer answer = {.output = report};
     answer.number = hirelog_audit(lent[ROSTER], inputs[ROSTER].len, lent[FIRST], inputs[FIRST].len,
-                                  lent[SECOND], inputs[SECOND].len, report, report_len);
-    if (answer.number != HIRELOG_SHORT_REPORT && report_len >= HIRELOG_REPORT_SIZE) {
+                                  lent[SECOND], inputs[SECOND].len, report, output_len);
+    if (answer.number != HIRELOG_SHORT_REPORT && output_len >= HIRELOG_REPORT_SIZE)
         answer.written = HIRELOG_REPORT_SIZE;
-        memcpy(answer.report, report, HIRELOG_REPORT_SIZE);
-    }
     return answer;
 }
 
 static void check_answer(const struct answer *answer)
 {
-    if ((answer->number == HIRELOG_SHORT_REPORT) != (report_len < HIRELOG_REPORT_SIZE))
+    if ((answer->number == HIRELOG_SHORT_REPORT) != (output_len < HIRELOG_REPORT_SIZE))
         fail("number 1 for a report that is long enough, or another for one that is not");
-    if (answer->written > 0 && answer->report[NUMBER_AT] != answer->number)
+    if (answer->written > 0 && answer->output[NUMBER_AT] != answer->number)
         fail("the number returned is not the report's");
 }
 
 /* The lines of document 01's program. */
 static void print_lines(const struct answer *answer)
 {
-    const uint8_t *report = answer->report;
+    const uint8_t *report = answer->output;
+    print_output();
     if (answer->written == 0)
         return;
     printf("refusal %u in %u\n", report[NUMBER_AT], report[PLACE_AT]);
@@ -63,11 +63,11 @@ static void print_lines(const struct answer *answer)
 
 int main(int argc, char **argv)
 {
-    report_len = HIRELOG_REPORT_SIZE;
+    output_len = HIRELOG_REPORT_SIZE;
     if (argc == 2) {
         for (int i = 0; i < INPUTS; i++)
             read_part(argv[1], file_names[i], &inputs[i]);
-        read_report(argv[1]);
+        read_output(argv[1]);
     } else if (argc == 4 || argc == 5) {
         for (int i = 0; i < INPUTS; i++)
             read_input(&inputs[i], argv[1 + i], "name a file that can be read, /dev/null for no bytes");

@@ -22,6 +22,7 @@
  */
 #define _GNU_SOURCE
 #define TOOL "district_tool"
+#define OUTPUT "report"
 #include "report.h"
 #include "tool.h"
 
@@ -36,17 +37,15 @@ static size_t count;
 
 static struct answer call_library(const uint8_t *const lent[INPUTS], uint8_t *report)
 {
-    struct answer answer = {0};
+    struct answer answer = {.output = report};
     size_t written = count + AFTER_NUMBERS;
     /* Pages are aligned, and the lengths have 4 bytes each, so they are too. */
     answer.number = hirelog_district(lent[ROSTER], inputs[ROSTER].len, lent[BUFFER],
                                      inputs[BUFFER].len, (const void *)lent[LENGTHS], count,
-                                     report, report_len);
-    if (answer.number == HIRELOG_OK && written <= report_len &&
-        written <= HIRELOG_DISTRICT_REPORT_MAX) {
+                                     report, output_len);
+    if (answer.number == HIRELOG_OK && written <= output_len &&
+        written <= HIRELOG_DISTRICT_REPORT_MAX)
         answer.written = written;
-        memcpy(answer.report, report, written);
-    }
     return answer;
 }
 
@@ -65,7 +64,7 @@ static uint32_t number_of_lengths(void)
         return HIRELOG_LENGTH_COUNT;
     if (sum != inputs[BUFFER].len)
         return HIRELOG_LENGTH_SUM;
-    return report_len < count + AFTER_NUMBERS ? HIRELOG_SHORT_REPORT : HIRELOG_OK;
+    return output_len < count + AFTER_NUMBERS ? HIRELOG_SHORT_REPORT : HIRELOG_OK;
 }
 
 /* Looks at the report of a run that was made. */
@@ -95,13 +94,14 @@ static void check_answer(const struct answer *answer)
         fail("number %" PRIu32 ", and not that of the lengths, %" PRIu32, answer->number,
              number_of_lengths());
     if (answer->written > 0)
-        check_fields(answer->report);
+        check_fields(answer->output);
 }
 
 /* The lines of the command hirelog district. */
 static void print_lines(const struct answer *answer)
 {
-    const uint8_t *report = answer->report;
+    const uint8_t *report = answer->output;
+    print_output();
     printf("refusal %" PRIu32 "\n", answer->number);
     if (answer->written == 0)
         return;
@@ -170,9 +170,9 @@ int main(int argc, char **argv)
     count = inputs[LENGTHS].len / sizeof(uint32_t);
     if (inputs[LENGTHS].len % sizeof(uint32_t) != 0)
         stop("lengths", "ends inside a length", "write 4 bytes for each");
-    report_len = count + AFTER_NUMBERS;
+    output_len = count + AFTER_NUMBERS;
     if (argc == 2)
-        read_report(argv[1]);
+        read_output(argv[1]);
     else
         read_length(argv[1], argv[1]);
     run_calls(file_names);

@@ -18,6 +18,12 @@ enum { POINTER_SIZE = 32, CHAIN_STRING_SIZE = 72 };
 /* Where a field of the trailer begins: H, L, the fourth distance, the version. */
 enum { RECORDS_AT = 16, LEADERS_AT = 20, COMMIT_AT = 36, VERSION_AT = 40 };
 
+/* Of a leader certificate: the bytes before its signatures, and where term and signers begin. */
+enum { LEADER_HEAD_SIZE = 48, LEADER_TERM_AT = 2, LEADER_SIGNERS_AT = 46 };
+
+/* Where a commit certificate has its signers, after the index. */
+enum { COMMIT_SIGNERS_AT = 4 };
+
 /* The chain string of the record with this index, from 1: index, record, the pointer before. */
 static inline void write_chain_string(uint8_t string[CHAIN_STRING_SIZE], uint32_t index,
                                       const uint8_t *record, const uint8_t *before)

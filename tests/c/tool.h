@@ -1,7 +1,8 @@
 /*
  * What the bench tools share: the calls that each makes and how it holds them to each other, and
- * the files of a folder. A tool defines TOOL, its name, before it includes this, and afterwards the
- * three functions that are declared here.
+ * the files of a folder. A tool defines TOOL, its name, and OUTPUT, what it calls the buffer that a
+ * call writes into, before it includes this, and afterwards the three functions that are declared
+ * here.
  */
 #ifndef TESTS_C_TOOL_H
 #define TESTS_C_TOOL_H
@@ -25,58 +26,66 @@ static const char *const call_names[CALLS] = {
 };
 
 static struct file inputs[INPUTS], expected;
-static size_t report_len;
+static size_t output_len;
 
-static struct guarded input_rooms[INPUTS], report_room;
+static struct guarded input_rooms[INPUTS], output_room;
 
-/* What a call gives: the number, and as many bytes of the report as it has to write. */
+/* What a call gives: the number, and how many of the output's first bytes it has to write. */
 struct answer {
     uint32_t number;
     size_t written;
-    uint8_t report[HIRELOG_REPORT_SIZE];
+    const uint8_t *output; /* until the next call */
 };
 
 /* The tool's own: makes the call on what is lent, looks at its answer, and prints it. */
-static struct answer call_library(const uint8_t *const lent[INPUTS], uint8_t *report);
+static struct answer call_library(const uint8_t *const lent[INPUTS], uint8_t *output);
 static void check_answer(const struct answer *answer);
 static void print_lines(const struct answer *answer);
 
-static void print_answer(const struct answer *answer)
+/* The output's buffer in hex, for a tool whose output is short. */
+__attribute__((unused)) static void print_output(void)
 {
-    printf("number %" PRIu32 "\nreport ", answer->number);
-    for (size_t i = 0; i < report_len; i++)
-        printf("%02x", report_room.bytes[i]);
+    printf(OUTPUT " ");
+    for (size_t i = 0; i < output_len; i++)
+        printf("%02x", output_room.bytes[i]);
     printf("\n");
-    print_lines(answer);
-    fflush(stdout);
 }
 
 /* ---- what must hold */
 
-/* No byte in or around the report changed but those that the call writes. */
+/* No byte in or around the output changed but those that the call writes. */
 static void check_kept(const struct answer *answer)
 {
     ptrdiff_t at;
-    if (guarded_changed(&report_room, answer->written, &at))
-        fail("byte %td of the report (%zu are the call's) was written", at, answer->written);
+    if (guarded_changed(&output_room, answer->written, &at))
+        fail("byte %td of the " OUTPUT " (%zu are the call's) was written", at, answer->written);
 }
 
 /*
- * The report must begin with the bytes of the folder's file. What the call does not write has been
+ * The output must begin with the bytes of the folder's file. What the call does not write has been
  * looked at: there the file has what compare filled its buffer with.
  */
 static void check_expected(const struct answer *answer)
 {
     for (size_t i = 0; i < expected.len; i++)
-        if (i >= report_len || (i < answer->written && answer->report[i] != expected.bytes[i]))
-            fail("byte %zu of the report is not that of the file report", i);
+        if (i >= output_len || (i < answer->written && answer->output[i] != expected.bytes[i]))
+            fail("byte %zu of the " OUTPUT " is not that of the file " OUTPUT, i);
     if (expected.bytes && expected.len < answer->written)
-        fail("the file report is shorter than the report");
+        fail("the file " OUTPUT " is shorter than the " OUTPUT);
+}
+
+/* A later call must give what the first did, whose output is kept. */
+static void check_same(const struct answer *first, const struct file *kept,
+                       const struct answer *again)
+{
+    if (again->number != first->number || again->written != kept->len ||
+        (kept->len > 0 && memcmp(again->output, kept->bytes, kept->len) != 0))
+        fail("another number or " OUTPUT " than in the first call");
 }
 
 /* ---- the calls */
 
-/* Makes one of them; the report is then in its room. */
+/* Makes one of them; the output is then in its room. */
 static struct answer call_so(enum call call)
 {
     enum guarded_side side = call == BEFORE_EACH ? PAGE_BEFORE : PAGE_AFTER;
@@ -85,23 +94,24 @@ static struct answer call_so(enum call call)
         const uint8_t *copy = guarded_lend(&input_rooms[i], inputs[i].bytes, inputs[i].len, side);
         lent[i] = call == NULLS && inputs[i].len == 0 ? NULL : copy;
     }
-    uint8_t *report = guarded_offer(&report_room, report_len, side, 0);
-    if (call == NULLS && report_len == 0)
-        report = NULL;
+    uint8_t *output = guarded_offer(&output_room, output_len, side, 0);
+    if (call == NULLS && output_len == 0)
+        output = NULL;
     snprintf(under_way, sizeof under_way, "  %s\n", call_names[call]);
-    return call_library(lent, report);
+    return call_library(lent, output);
 }
 
 /* Makes the calls, prints what the first gives, and holds the others to it. */
 static void run_calls(const char *const names[INPUTS])
 {
-    struct answer first, again;
-    int empty = report_len == 0;
+    struct answer first = {0}, again;
+    struct file kept = {0}; /* what the first wrote */
+    int empty = output_len == 0;
     for (int i = 0; i < INPUTS; i++) {
         guarded_make(&input_rooms[i], names[i], inputs[i].len);
         empty |= inputs[i].len == 0;
     }
-    guarded_make(&report_room, "report", report_len);
+    guarded_make(&output_room, OUTPUT, output_len);
     guarded_watch(TOOL, under_way);
     for (enum call call = AFTER_EACH; call < (empty ? CALLS : NULLS); call++) {
         again = call_so(call);
@@ -109,13 +119,16 @@ static void run_calls(const char *const names[INPUTS])
         check_kept(&again);
         if (call == AFTER_EACH) {
             first = again;
-            print_answer(&first);
-        } else if (again.number != first.number ||
-                   memcmp(again.report, first.report, sizeof first.report) != 0) {
-            fail("another number or report than in the first call");
+            if (append(&kept, first.output, first.written))
+                stop("the buffers", "no memory", "free some");
+            printf("number %" PRIu32 "\n", first.number);
+            print_lines(&first);
+            fflush(stdout);
         }
+        check_same(&first, &kept, &again);
         check_expected(&again);
     }
+    free(kept.bytes);
 }
 
 /* ---- the files */
@@ -126,8 +139,8 @@ static void read_length(const char *text, const char *from)
     errno = 0;
     unsigned long long len = strtoull(text, &end, 10);
     if (errno || end == text || *end > ' ' || *text == '-' || len > 1 << 30)
-        stop(from, "not a report's length", "write a number up to 1073741824");
-    report_len = (size_t)len;
+        stop(from, "not a length of the " OUTPUT, "write a number up to 1073741824");
+    output_len = (size_t)len;
 }
 
 /* Reads a file of the folder, which has to be there. */
@@ -149,16 +162,16 @@ static int read_optional(const char *folder, const char *name, struct file *file
     return problem == 0;
 }
 
-/* Reads what the folder says of the report: its length and its bytes, if they are there. */
-static void read_report(const char *folder)
+/* Reads what the folder says of the output: its length and its bytes, if they are there. */
+static void read_output(const char *folder)
 {
     struct file length;
     char text[32];
-    if (read_optional(folder, "report_length", &length)) {
+    if (read_optional(folder, OUTPUT "_length", &length)) {
         snprintf(text, sizeof text, "%.*s", (int)(length.len < 31 ? length.len : 31), length.bytes);
-        read_length(text, "report_length");
+        read_length(text, OUTPUT "_length");
     }
-    read_optional(folder, "report", &expected);
+    read_optional(folder, OUTPUT, &expected);
 }
 
 #endif

@@ -2,8 +2,9 @@
 //! file compare the library with; tests/fuzz/run builds it.
 //!
 //! No pointer is NULL; each is to as many bytes as its length says, all readable, and those of a
-//! report or root writable and apart from the others.
+//! report, output or root writable and apart from the others.
 
+use auditor::assemble::assemble;
 use auditor::audit::audit;
 use auditor::lms::{candidate, check, Verdict};
 use auditor::verdicts::Verdicts;
@@ -17,6 +18,16 @@ thread_local! {
 
 /// How many are kept: with more, they begin anew.
 const VERDICTS_KEPT: usize = 10_000;
+
+/// Runs with the signature checks of earlier calls, if these are not too many.
+fn with_verdicts<T>(run: impl FnOnce(&mut Verdicts) -> T) -> T {
+    VERDICTS.with_borrow_mut(|verdicts| {
+        if verdicts.made() > VERDICTS_KEPT {
+            *verdicts = Verdicts::default();
+        }
+        run(verdicts)
+    })
+}
 
 /// What hirelog_audit has to return, and to write.
 ///
@@ -33,10 +44,7 @@ pub unsafe extern "C" fn auditor_audit(
     report: *mut u8,
     report_len: usize,
 ) -> u32 {
-    VERDICTS.with_borrow_mut(|verdicts| {
-        if verdicts.made() > VERDICTS_KEPT {
-            *verdicts = Verdicts::default();
-        }
+    with_verdicts(|verdicts| {
         audit(
             from_raw_parts(roster, roster_len),
             from_raw_parts(first, first_len),
@@ -45,6 +53,35 @@ pub unsafe extern "C" fn auditor_audit(
             verdicts,
         )
     })
+}
+
+/// What hirelog_assemble has to return as its number, and to write; its length is written too.
+///
+/// # Safety
+/// As above.
+#[no_mangle]
+pub unsafe extern "C" fn auditor_assemble(
+    roster: *const u8,
+    roster_len: usize,
+    log: *const u8,
+    log_len: usize,
+    items: *const u8,
+    items_len: usize,
+    output: *mut u8,
+    output_len: usize,
+    length: *mut usize,
+) -> u32 {
+    let (number, written) = with_verdicts(|verdicts| {
+        assemble(
+            from_raw_parts(roster, roster_len),
+            from_raw_parts(log, log_len),
+            from_raw_parts(items, items_len),
+            from_raw_parts_mut(output, output_len),
+            verdicts,
+        )
+    });
+    *length = written;
+    number
 }
 
 /// What hirelog_lms_check has to return.

@@ -20,6 +20,9 @@ size_t LLVMFuzzerMutate(uint8_t *data, size_t size, size_t max_size);
 uint32_t auditor_audit(const uint8_t *roster, size_t roster_len, const uint8_t *first,
                        size_t first_len, const uint8_t *second, size_t second_len,
                        uint8_t *report, size_t report_len);
+uint32_t auditor_assemble(const uint8_t *roster, size_t roster_len, const uint8_t *log,
+                          size_t log_len, const uint8_t *items, size_t items_len, uint8_t *output,
+                          size_t output_len, size_t *length);
 uint32_t auditor_lms_check(const uint8_t *key, size_t key_len, const uint8_t *message,
                            size_t message_len, const uint8_t *signature, size_t signature_len);
 uint32_t auditor_lms_root(const uint8_t *key, size_t key_len, const uint8_t *message,

@@ -2,8 +2,8 @@
 
 use crate::roster::Name;
 use crate::sha256::sha256;
-use crate::statement::{self, pointers, Record, Vote};
-use crate::submission::{CommitCertificate, LeaderCertificate, Trailer};
+use crate::statement::{self, pointers, position, Record, Vote};
+use crate::submission::{CommitCertificate, LeaderCertificate, Submission, Trailer};
 
 /// The numbers of records before each term's first.
 fn starts(records: &[Record]) -> Vec<usize> {
@@ -46,13 +46,8 @@ impl Draft {
             trailer: Trailer { name, records: 0, leaders: 0, distances: [0; 4], version: 1 },
         };
         for (before, (candidate, signers)) in starts(records).into_iter().zip(leaders) {
-            let vote = Vote {
-                candidate: *candidate,
-                term: records[before].term,
-                last_term: if before == 0 { 0 } else { records[before - 1].term },
-                last_index: before as u32,
-                last_pointer: pointers[before],
-            };
+            let end = position(records, &pointers, before);
+            let vote = Vote::on(&end, *candidate, records[before].term);
             let leader = LeaderCertificate { vote, signers: *signers, signatures: Vec::new() };
             draft.leaders.push(leader);
             draft.stamps.push(Vec::new());
@@ -63,6 +58,12 @@ impl Draft {
             signatures: Vec::new(),
         });
         draft
+    }
+
+    /// The parts as they are.
+    pub fn parts_of(&self) -> Submission {
+        let Draft { records, leaders, stamps, commit, .. } = self.clone();
+        Submission { records, leaders, stamps, commit }
     }
 
     /// Sets the counts and the distances to those of the parts as they are.
@@ -81,10 +82,7 @@ impl Draft {
 
     fn parts(&self) -> [Vec<u8>; 4] {
         let mut parts: [Vec<u8>; 4] = Default::default();
-        for record in &self.records {
-            parts[0].extend(record.term.to_be_bytes());
-            parts[0].extend(record.payload);
-        }
+        parts[0] = log_bytes(&self.records);
         for leader in &self.leaders {
             parts[1].extend(statement::vote_fields(&leader.vote));
             parts[1].extend(leader.signers.to_be_bytes());
@@ -111,6 +109,11 @@ impl Draft {
         bytes.extend(self.trailer.version.to_be_bytes());
         bytes
     }
+}
+
+/// The bytes of a log: 36 for each record.
+pub fn log_bytes(records: &[Record]) -> Vec<u8> {
+    records.iter().flat_map(Record::bytes).collect()
 }
 
 /// A log of records, each given by its term and by what its payload is the digest of.

@@ -6,6 +6,7 @@ pub mod premises;
 mod replica;
 mod signed;
 
+use crate::assemble::items::Item;
 use crate::build::Draft;
 use crate::cluster::Cluster;
 use crate::random::Random;
@@ -31,10 +32,7 @@ pub struct Claim {
 impl Claim {
     /// The submission, as it is accepted, without signatures.
     pub fn unsigned(&self) -> Submission {
-        let Claim { records, leaders, commit } = self;
-        let Draft { records, leaders, stamps, commit, .. } =
-            Draft::unsigned([0; 16], records, leaders, *commit);
-        Submission { records, leaders, stamps, commit }
+        Draft::unsigned([0; 16], &self.records, &self.leaders, self.commit).parts_of()
     }
 
     pub fn draft(&self, signer: &Signer) -> Draft {
@@ -286,6 +284,23 @@ impl District {
     pub fn signer(&self, cluster: &Rc<Cluster>) -> Signer {
         let written = |k| self.signed.leaves(k).map(|statement| statement.bytes(&cluster.name));
         Signer::after(cluster, (1..=self.n as u16).map(written).collect())
+    }
+
+    /// All that was signed, each statement with the leaf that its replica signed it by. The cluster's
+    /// keys have to have as many leaves from 0 on.
+    pub fn items(&self, cluster: &Cluster) -> Vec<Item> {
+        let mut items = Vec::new();
+        for replica in 1..=self.n as u16 {
+            let leaves = self.signed.leaves(replica);
+            let mut signed: Vec<(u32, Vec<u8>)> =
+                leaves.iter().map(|(said, leaf)| (leaf, said.bytes(&cluster.name))).collect();
+            signed.sort(); // a map has them in any order
+            items.extend(signed.into_iter().map(|(leaf, statement)| {
+                let signature = cluster.sign_with(replica, leaf, &statement);
+                Item { replica, statement, signature }
+            }));
+        }
+        items
     }
 
     /// A claim for each log that can be submitted, with chosen signers and a chosen commit.

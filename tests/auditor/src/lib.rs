@@ -4,7 +4,8 @@
 //! - `sha256`, `lms`: the two smaller services;
 //! - `numbers`, `roster`, `statement`, `submission`, `audit`, `program`: the audit, its numbers,
 //!   its report and the lines that the program prints;
-//! - `depot`, from document 02, W1, besides: the run over a list of submissions, with its cases.
+//! - `depot`, from document 02, W1, besides: the run over a list of submissions, with its cases;
+//! - `assemble`, from document 02, W3: a submission from a log and a bag of items, with its cases.
 //!
 //! What makes inputs for both sides:
 //! - `lms::sign`, `cluster`: keys and rosters;
@@ -14,6 +15,7 @@
 //!   `district::acts`: worked examples of those rules, the file that replica_acts prints;
 //! - `cases`: the audits that tests/compare compares; `samples`: the files that make_cases writes.
 
+pub mod assemble;
 pub mod audit;
 pub mod build;
 pub mod bytes;

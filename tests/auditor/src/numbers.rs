@@ -1,6 +1,6 @@
 //! Document 01, What stops an audit, and The report: the numbers, as this auditor gives them, and
-//! the rules; numbers 17 and 18 are of document 02, W1. The program numbers prints the two lists,
-//! which tests/scripts/numbers compares with docs/NUMBERS.md.
+//! the rules; numbers 17 and 18 are of document 02, W1, and 19 to 21 of W3. The program numbers prints
+//! the two lists, which tests/scripts/numbers compares with docs/NUMBERS.md.
 
 pub const ACCEPTED: u8 = 0;
 pub const SHORT_REPORT: u8 = 1;
@@ -22,6 +22,9 @@ pub const SIGNATURE: u8 = 15;
 pub const LONG_MESSAGE: u8 = 16;
 pub const LENGTH_COUNT: u8 = 17;
 pub const LENGTH_SUM: u8 = 18;
+pub const ITEM: u8 = 19;
+pub const NO_LEADER: u8 = 20;
+pub const SHORT_OUTPUT: u8 = 21;
 
 pub const TWO_VOTES: u8 = 1;
 pub const TWO_STAMPS: u8 = 2;
@@ -31,7 +34,7 @@ pub const STALE_VOTE_EXCHANGED: u8 = 4;
 /// A number or a rule, what it is about, and its word.
 pub type Row = (u8, &'static str, &'static str);
 
-/// Every number; the words are document 01's, and for 17 and 18 ours, for document 02 has none.
+/// Every number; the words are document 01's, and from 17 on ours, for document 02 has none.
 pub const NUMBERS: &[Row] = &[
     (ACCEPTED, "all", "accepted"),
     (SHORT_REPORT, "report", "short report"),
@@ -52,6 +55,9 @@ pub const NUMBERS: &[Row] = &[
     (LONG_MESSAGE, "message", "long message"),
     (LENGTH_COUNT, "lengths", "length count"),
     (LENGTH_SUM, "lengths", "length sum"),
+    (ITEM, "items", "item"),
+    (NO_LEADER, "items", "no leader"),
+    (SHORT_OUTPUT, "output", "short output"),
 ];
 
 /// Every rule; the words are ours, for document 01 has none.

@@ -88,7 +88,7 @@ pub fn quorum(n: usize) -> usize {
 }
 
 /// S for trees of this height.
-pub fn signature_size(height: usize) -> usize {
+pub const fn signature_size(height: usize) -> usize {
     1132 + 32 * height
 }
 

@@ -6,7 +6,7 @@ use crate::build::{ends, Draft};
 use crate::cluster::Cluster;
 use crate::leaves::Leaves;
 use crate::roster::replicas_of;
-use crate::statement::{self, pointers, Position, Record};
+use crate::statement::{self, pointers, position, Record};
 use std::cell::RefCell;
 use std::ops::Deref;
 use std::rc::Rc;
@@ -48,6 +48,13 @@ impl Signer {
         self.sign_with(replica, self.cluster.leaves(replica).start + number, message)
     }
 
+    /// Another signature of a message, by a leaf of its own; each number has another.
+    pub fn sign_again(&self, replica: u16, message: &[u8], number: u8) -> Vec<u8> {
+        let copy = [message, &[number]].concat();
+        let leaf = self.leaves.borrow_mut()[replica as usize - 1].of(copy);
+        self.sign_with(replica, self.cluster.leaves(replica).start + leaf, message)
+    }
+
     /// One signature for each bit, rising.
     pub fn sign_each(&self, signers: u16, message: &[u8]) -> Vec<Vec<u8>> {
         replicas_of(signers).into_iter().map(|k| self.sign(k, message)).collect()
@@ -70,11 +77,7 @@ impl Signer {
     /// Signs what the draft's fields now say, as many signatures as there are signers' bits.
     pub fn sign_all(&self, draft: &mut Draft) {
         let pointers = pointers(&draft.records);
-        let at = |index: usize| Position {
-            term: if index == 0 { 0 } else { draft.records[index - 1].term },
-            index: index as u32,
-            pointer: pointers[index],
-        };
+        let at = |index: usize| position(&draft.records, &pointers, index);
         for leader in &mut draft.leaders {
             let message = statement::vote(&self.name, &leader.vote);
             leader.signatures = self.sign_each(leader.signers, &message);

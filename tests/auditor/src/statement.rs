@@ -1,5 +1,6 @@
 //! Document 01, Chain and statements: pointers, and the bytes that a signature is made on.
 
+use crate::bytes::{array_at, u32_at};
 use crate::roster::Name;
 use crate::sha256::{sha256, Digest};
 
@@ -13,6 +14,18 @@ pub struct Record {
     pub payload: Digest,
 }
 
+impl Record {
+    /// The record of these 36 bytes.
+    pub fn read(bytes: &[u8]) -> Record {
+        Record { term: u32_at(bytes, 0), payload: array_at(bytes, 4) }
+    }
+
+    /// Its 36 bytes.
+    pub fn bytes(&self) -> Vec<u8> {
+        [&self.term.to_be_bytes()[..], &self.payload].concat()
+    }
+}
+
 /// A vote's fields.
 #[derive(Clone, Copy, Debug, PartialEq, Eq, Hash)]
 pub struct Vote {
@@ -21,6 +34,14 @@ pub struct Vote {
     pub last_term: u32,
     pub last_index: u32,
     pub last_pointer: Digest,
+}
+
+impl Vote {
+    /// A vote in a term for a candidate whose log ends there.
+    pub fn on(end: &Position, candidate: u16, term: u32) -> Vote {
+        let Position { term: last_term, index: last_index, pointer: last_pointer } = *end;
+        Vote { candidate, term, last_term, last_index, last_pointer }
+    }
 }
 
 /// A stamp's or receipt's fields.
@@ -59,6 +80,13 @@ pub fn pointers(log: &[Record]) -> Vec<Digest> {
     pointers
 }
 
+/// The record at an index, as a stamp or a receipt names it; for index 0 the start of the log, as a
+/// vote names that. The pointers are the log's.
+pub fn position(log: &[Record], pointers: &[Digest], index: usize) -> Position {
+    let term = if index == 0 { 0 } else { log[index - 1].term };
+    Position { term, index: index as u32, pointer: pointers[index] }
+}
+
 /// The 72 bytes that the pointer at an index is the digest of.
 pub fn chain_string(index: usize, record: &Record, before: &Digest) -> Vec<u8> {
     let mut bytes = (index as u32).to_be_bytes().to_vec();
@@ -70,12 +98,12 @@ pub fn chain_string(index: usize, record: &Record, before: &Digest) -> Vec<u8> {
 
 /// Kind 1: 57 bytes.
 pub fn stamp(name: &Name, at: &Position) -> Vec<u8> {
-    position(1, name, at)
+    position_bytes(1, name, at)
 }
 
 /// Kind 2: 57 bytes.
 pub fn receipt(name: &Name, at: &Position) -> Vec<u8> {
-    position(2, name, at)
+    position_bytes(2, name, at)
 }
 
 /// Kind 3: 63 bytes.
@@ -93,7 +121,7 @@ pub fn vote_fields(vote: &Vote) -> Vec<u8> {
     bytes
 }
 
-fn position(kind: u8, name: &Name, at: &Position) -> Vec<u8> {
+fn position_bytes(kind: u8, name: &Name, at: &Position) -> Vec<u8> {
     let mut bytes = vec![kind];
     bytes.extend(name);
     bytes.extend(at.term.to_be_bytes());

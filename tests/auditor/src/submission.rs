@@ -6,8 +6,7 @@ mod layout;
 use crate::bytes::{array_at, u32_at};
 use crate::numbers;
 use crate::roster::{replicas_of, Name, Roster};
-use crate::sha256::Digest;
-use crate::statement::{self, pointers, Position, Record, Vote};
+use crate::statement::{self, pointers, position, Record, Vote};
 use crate::verdicts::Verdicts;
 
 /// Bytes of the trailer, of a record, and of a certificate before its signatures.
@@ -38,7 +37,7 @@ pub struct CommitCertificate {
 }
 
 /// The four parts before the trailer.
-#[derive(Debug)]
+#[derive(Clone, Debug)]
 pub struct Submission {
     pub records: Vec<Record>,
     pub leaders: Vec<LeaderCertificate>,
@@ -113,7 +112,7 @@ impl Submission {
         if !self.signers_are_right(roster) {
             return Err(numbers::SIGNERS);
         }
-        if !self.terms_are_in_order() {
+        if !terms_are_in_order(&self.records) {
             return Err(numbers::TERM_ORDER);
         }
         if self.leaders.len() != self.runs().len() {
@@ -145,40 +144,17 @@ impl Submission {
         })
     }
 
-    /// Check 11: no term is 0 or below the one before.
-    fn terms_are_in_order(&self) -> bool {
-        let mut before = 0;
-        for record in &self.records {
-            if record.term == 0 || record.term < before {
-                return false;
-            }
-            before = record.term;
-        }
-        true
-    }
-
     /// The log's runs of one term each, in log order.
     pub fn runs(&self) -> Vec<Run> {
-        let mut runs: Vec<Run> = Vec::new();
-        for (i, record) in self.records.iter().enumerate() {
-            match runs.last_mut() {
-                Some(run) if run.term == record.term => run.last = i + 1,
-                _ => runs.push(Run { term: record.term, first: i + 1, last: i + 1 }),
-            }
-        }
-        runs
+        runs(&self.records)
     }
 
     /// Check 13: every leader certificate has the fields that its term's first record asks for.
     fn leaders_are_right(&self, roster: &Roster) -> bool {
         let pointers = pointers(&self.records);
         self.leaders.iter().zip(self.runs()).all(|(leader, run)| {
-            let before = run.first - 1;
-            let last_term = if before == 0 { 0 } else { self.records[before - 1].term };
-            leader.vote.term == run.term
-                && leader.vote.last_index as usize == before
-                && leader.vote.last_term == last_term
-                && leader.vote.last_pointer == pointers[before]
+            let before = position(&self.records, &pointers, run.first - 1);
+            leader.vote == Vote::on(&before, leader.vote.candidate, run.term)
                 && (1..=roster.n()).contains(&(leader.vote.candidate as usize))
                 && replicas_of(leader.signers).contains(&leader.vote.candidate)
         })
@@ -200,22 +176,40 @@ impl Submission {
             slots.extend(certified(leader.signers, &statement, &leader.signatures));
         }
         for ((leader, run), signature) in self.leaders.iter().zip(self.runs()).zip(&self.stamps) {
-            let statement = statement::stamp(name, &self.position(&pointers, run.last));
+            let statement = statement::stamp(name, &position(&self.records, &pointers, run.last));
             slots.push(Slot { replica: leader.vote.candidate, statement, signature });
         }
         if let Some(commit) = &self.commit {
-            let at = self.position(&pointers, commit.index as usize);
+            let at = position(&self.records, &pointers, commit.index as usize);
             let statement = statement::receipt(name, &at);
             slots.extend(certified(commit.signers, &statement, &commit.signatures));
         }
         slots
     }
+}
 
-    /// The record at an index, as a stamp or a receipt names it.
-    fn position(&self, pointers: &[Digest], index: usize) -> Position {
-        let term = self.records[index - 1].term;
-        Position { term, index: index as u32, pointer: pointers[index] }
+/// Check 11: no term is 0 or below the one before.
+pub fn terms_are_in_order(records: &[Record]) -> bool {
+    let mut before = 0;
+    for record in records {
+        if record.term == 0 || record.term < before {
+            return false;
+        }
+        before = record.term;
     }
+    true
+}
+
+/// The runs of one term each of a log, in its order.
+pub fn runs(records: &[Record]) -> Vec<Run> {
+    let mut runs: Vec<Run> = Vec::new();
+    for (i, record) in records.iter().enumerate() {
+        match runs.last_mut() {
+            Some(run) if run.term == record.term => run.last = i + 1,
+            _ => runs.push(Run { term: record.term, first: i + 1, last: i + 1 }),
+        }
+    }
+    runs
 }
 
 /// One signature per signer, in rising order.

@@ -1,5 +1,6 @@
 //! The calls that are compared.
 
+pub mod assemble;
 pub mod audit;
 pub mod district;
 pub mod lms_check;
@@ -12,6 +13,7 @@ pub fn all() -> Vec<Box<dyn Call>> {
     vec![
         Box::new(sha256::Sha256),
         Box::new(lms_check::LmsCheck),
+        Box::<assemble::Assemble>::default(),
         Box::<district::District>::default(),
         Box::<audit::Audit>::default(),
     ]

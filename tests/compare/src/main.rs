@@ -5,17 +5,18 @@
 //! compare soak SECONDS [CALL..]  fresh sets of each call in turn, until the time is up
 //! compare replay FOLDER          one case, from the files that a difference leaves behind
 //! compare premises               the premises of fairness, on pairs that fork, and on lists
+//! compare round_trips            simulated submissions taken apart and assembled again
 //!
-//! A CALL is sha256, lms_check, district or audit; without one all are run. A case that differs is written to
-//! a folder (src/folder.rs): FAILED if it is set, otherwise compare.failed in the current folder.
-//! With TRACE set, each case is named and written there before it runs, so that one in which the
-//! library crashes is found.
+//! A CALL is sha256, lms_check, assemble, district or audit; without one all are run. A case that
+//! differs is written to a folder (src/folder.rs): FAILED if it is set, otherwise compare.failed in
+//! the current folder. With TRACE set, each case is named and written there before it runs, so that
+//! one in which the library crashes is found.
 
 use auditor::cases::Size;
 use auditor::random::fresh_seed;
 use compare::call::{Answer, Call, Case};
 use compare::run::{Counts, Difference, Watch};
-use compare::{calls, folder, premises};
+use compare::{calls, folder, premises, round_trips};
 use std::path::{Path, PathBuf};
 use std::time::{Duration, Instant};
 use std::{env, process::exit};
@@ -33,16 +34,22 @@ fn main() {
         },
         ["replay", folder] => replay(Path::new(folder)),
         ["premises"] => {
-            for held in [premises::hold(), premises::hold_in_lists()] {
-                match held {
-                    Ok(found) => println!("compare: {found}"),
-                    Err(why) => stop(&format!("premises: {why}")),
-                }
-            }
+            tell("premises", premises::hold());
+            tell("premises", premises::hold_in_lists());
         }
+        ["round_trips"] => tell("round trips", round_trips::hold()),
         _ => stop(
-            "use: compare fixed|fresh [CALL..] | soak SECONDS [CALL..] | replay FOLDER | premises",
+            "use: compare fixed|fresh [CALL..] | soak SECONDS [CALL..] | replay FOLDER | premises | \
+             round_trips",
         ),
+    }
+}
+
+/// Prints what was found, or stops where something does not hold.
+fn tell(about: &str, held: Result<String, &'static str>) {
+    match held {
+        Ok(found) => println!("compare: {found}"),
+        Err(why) => stop(&format!("{about}: {why}")),
     }
 }
 

@@ -1,5 +1,6 @@
-//! make_cases FOLDER [pointers]: writes the sample files into the folder, always the same. With
-//! `pointers` it writes FOLDER/pointers alone, and without it all the others.
+//! make_cases FOLDER [pointers|all_receipts]: writes the sample files into the folder, always the same.
+//! With `pointers` it writes FOLDER/pointers alone, with `all_receipts` FOLDER/assemble/all_receipts and
+//! FOLDER/assemble/all_receipts_shuffled alone, and without either all the others.
 //!
 //! FOLDER/numbers: `roster`; `n00` and `n05` to `n15`, the smallest submission against it for
 //! each number; `whole`, an accepted one with every part, `uncommitted` and `committed`, without a
@@ -18,11 +19,17 @@
 //! `expected` (the lines that `hirelog district` prints) and `report` (the bytes that the library's
 //! run writes). FOLDER/districts/nine has nine large submissions.
 //!
+//! FOLDER/samples/assemble, for the log and the bag of the repository's folder samples, and
+//! FOLDER/assemble/NAME, for more: `roster`, `log`, `items`, `expected` (the lines that `hirelog
+//! assemble` prints, but for the term without a leader), and `submission`, what is written, if the call
+//! is not refused. all_receipts has every item that a log of most records and terms can use.
+//!
 //! FOLDER/samples: `key`, `message` and `signature`, a good one, for the signature check.
 //!
 //! FOLDER/pointers: `roster`, submissions on which it is counted how often records are hashed, and
 //! `expected` as in numbers.
 
+use auditor::assemble::samples::Files;
 use auditor::audit::findings;
 use auditor::cluster::Cluster;
 use auditor::depot::samples::List;
@@ -32,7 +39,7 @@ use auditor::samples::{
 };
 use auditor::signer::Signer;
 use auditor::verdicts::Verdicts;
-use auditor::{depot, hex, program};
+use auditor::{assemble, depot, hex, program};
 use std::path::{Path, PathBuf};
 use std::{env, fs, process::exit};
 
@@ -50,15 +57,22 @@ fn main() {
             write_submissions(&folder, &cluster, pointers::submissions(&cluster), &mut verdicts);
             folder
         }
+        [folder, "all_receipts"] => {
+            let folder = Path::new(folder).join("assemble");
+            for files in assemble::samples::all_receipts() {
+                write_assembled(&made(folder.join(files.folder)), &files, &mut verdicts);
+            }
+            folder
+        }
         _ => {
-            eprintln!("use: make_cases FOLDER [pointers]");
+            eprintln!("use: make_cases FOLDER [pointers|all_receipts]");
             exit(2);
         }
     };
     println!("make_cases: {} written", folder.display());
 }
 
-/// Everything but `pointers`.
+/// Everything but `pointers` and `all_receipts`.
 fn make_samples(folder: &Path, verdicts: &mut Verdicts) {
     let cluster = cluster();
     write_submissions(&folder.join("numbers"), &cluster, submissions(&cluster), verdicts);
@@ -78,6 +92,16 @@ fn make_samples(folder: &Path, verdicts: &mut Verdicts) {
     for (part, lists) in parts {
         for list in lists {
             write_list(&made(folder.join(part).join(list.folder)), &list, verdicts);
+        }
+    }
+
+    let parts = [
+        ("samples", vec![assemble::samples::sample()]),
+        ("assemble", assemble::samples::more(&cluster, &keys)),
+    ];
+    for (part, calls) in parts {
+        for files in calls {
+            write_assembled(&made(folder.join(part).join(files.folder)), &files, verdicts);
         }
     }
 
@@ -135,6 +159,18 @@ fn write_list(folder: &Path, list: &List, verdicts: &mut Verdicts) {
     }
     write(folder, "expected", depot::lines(&found).as_bytes());
     write(folder, "report", &report);
+}
+
+fn write_assembled(folder: &Path, files: &Files, verdicts: &mut Verdicts) {
+    let Files { roster, log, items, .. } = files;
+    let written = assemble::assembled(roster, log, items, assemble::LONGEST, verdicts);
+    write(folder, "roster", roster);
+    write(folder, "log", log);
+    write(folder, "items", items);
+    write(folder, "expected", assemble::lines(roster, &written, verdicts).as_bytes());
+    if let Ok(submission) = written {
+        write(folder, "submission", &submission);
+    }
 }
 
 /// The folder, made if it is not there.

@@ -33,13 +33,17 @@ pub fn large(signer: &Signer) -> (Draft, Draft) {
     (first, second)
 }
 
+/// A log of 4,096 records and 64 terms, up to the largest.
+pub fn largest_log() -> Vec<Record> {
+    (0..4096u32)
+        .map(|i| Record { term: u32::MAX - 63 + i / 64, payload: sha256(&[&i.to_be_bytes()]) })
+        .collect()
+}
+
 /// The largest submission that is accepted, of nine replicas with trees of height 25: 64 terms,
 /// 4,096 records, and everybody signs.
 pub fn largest(signer: &Signer) -> Draft {
-    let all = signer.all();
-    let records: Vec<Record> = (0..4096u32)
-        .map(|i| Record { term: u32::MAX - 63 + i / 64, payload: sha256(&[&i.to_be_bytes()]) })
-        .collect();
+    let (all, records) = (signer.all(), largest_log());
     let leaders: Vec<(u16, u16)> = (0..64).map(|i| (i % signer.n() as u16 + 1, all)).collect();
     signer.submission(&records, &leaders, Some((4096, all)))
 }

@@ -18,8 +18,7 @@ pub fn parts(bytes: &[u8], trailer: &Trailer, s: usize) -> Option<Submission> {
     }
     let mut records = Vec::new();
     for _ in 0..trailer.records {
-        let bytes = reader.take(RECORD_SIZE)?;
-        records.push(Record { term: u32_at(bytes, 0), payload: array_at(bytes, 4) });
+        records.push(Record::read(reader.take(RECORD_SIZE)?));
     }
 
     if back(d2)? != reader.at {

@@ -5,6 +5,7 @@ use crate::build::{log, Draft};
 use crate::cases::empty;
 use crate::cluster::{Cluster, Keys};
 use crate::signer::Signer;
+use crate::statement::Position;
 
 /// Three replicas with a few leaves each, none of them taken.
 fn signer() -> Signer {
