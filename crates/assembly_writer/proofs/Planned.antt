@@ -2,10 +2,11 @@
 -- Assumes nothing.
 use mathlib.Core.Path.{_≡_, refl, sym, ap, _∙_}
 use mathlib.Core.List.{List, [], _∷_, _++_, map, flatMap}
-use Prim.Native.Nat.{ℕ, _+_, _*_, _≤_, _<_}
+use Prim.Native.Nat.{ℕ, _+_, _-_, _*_, _≤_, _<_}
 use native.Mathlib.Nat.{mul-zero, mul-suc, add-comm}
 use native.Mathlib.Omega.{arith}
-use lib.ListN.{length, getD, drop, length-append, length-take, length-map}
+use borrow.Rule.Slice.PartMut.{putMid}
+use lib.ListN.{length, getD, take, drop, length-append, length-take, length-map}
 use lib.Seq.{length-take-le, sets}
 use Rattle.words.specs.BigEndian.{be}
 use Rattle.words.specs.Over.{over}
@@ -25,7 +26,7 @@ use Rattle.assembly_writer.specs.declared.Plan.{Plan}
 use Rattle.assembly_writer.specs.declared.Sizes.{Sizes}
 use Rattle.assembly_writer.specs.Parts.{leadersPart, stampsPart, commitPart, certifiedPart, SizesOf, fieldsFor, fieldCount, fieldsPart, trailerPart, RowsInside}
 use Rattle.assembly_writer.specs.Written.{viewTaken, bytesTaken, Planned}
-use Rattle.assembly_writer.proofs.Lent.{over-first, Begun}
+use Rattle.assembly_writer.proofs.Lent.{over-first, Begun, rest-put}
 use Rattle.assembly_writer.proofs.Joined.{joined-long}
 use Rattle.assembly_writer.proofs.Rows.{commit-row-places}
 use Rattle.assembly_writer.proofs.Bounds.{parts-small}
@@ -206,6 +207,13 @@ module _ {roster log bag votes : List ℕ} {p : Plan} {taken : List ℕ} (plan :
         sizes-small =
             omega (arith, parts-small rows-held votes (plan .logged) (plan .records), sizes .leaders, sizes .stamps, sizes .commit)
 
-        pub trailer-begun : {out : List ℕ} → out ≡ over (log ++ certified) e
+        trailer-begun : {out : List ℕ} → out ≡ over (log ++ certified) e
             → Begun (log ++ certified) (trailerPart name (fieldsFor p (length log) s)) e out (length log + (s .leaders + (s .stamps + s .commit)))
         trailer-begun o = record { room = omega (arith, ap length (bytes-parts sizes)); put = o; here = parts-end }
+
+        -- the same of a buffer whose rest, after the log, was lent on to the writer of parts 2 to 4
+        pub certified-put : {out last : List ℕ} → out ≡ sets e 0 log
+            → last ≡ over certified (take (length out - length log) (drop (length log) out))
+            → Begun (log ++ certified) (trailerPart name (fieldsFor p (length log) s)) e (putMid (length log) (length out - length log) out last)
+            (length log + (s .leaders + (s .stamps + s .commit)))
+        certified-put o l = trailer-begun (rest-put (log-begun o) refl l .1)

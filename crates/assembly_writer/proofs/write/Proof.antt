@@ -1,6 +1,6 @@
 -- The log, parts 2 to 4, the trailer: each begins where the last one ended.
 -- Assumes nothing.
-use mathlib.Core.Path.{refl, sym, ap, _∙_}
+use mathlib.Core.Path.{sym, ap, _∙_}
 use native.Mathlib.Omega.{arith}
 use borrow.Author.Needs.{needs}
 use lib.ListN.{length}
@@ -8,7 +8,7 @@ use Rattle.words.specs.Over.{over}
 use Rattle.words.proofs.Laws.{bytes-each}
 use Rattle.roster.specs.Roster.{cluster}
 use Rattle.assembly_writer.proofs.Lent.{begun-long, rest-inside, rest-room, rest-put}
-use Rattle.assembly_writer.proofs.Planned.{rows-held, votes-room, index-small, bytes-parts, log-room, log-begun, sizes-small, trailer-begun}
+use Rattle.assembly_writer.proofs.Planned.{rows-held, votes-room, index-small, bytes-parts, log-room, log-begun, sizes-small, certified-put}
 use Rattle.assembly_writer.proofs.write.Statement.{statement}
 use Rattle.assembly_writer.proofs.write.Tie as tie
 
@@ -51,7 +51,6 @@ trailer-fields-requires c κs =
     let start = head .before .before .before .before .before .before .before .before in
     let a = start .args in
     let known = bytes-each (a .log .now) (λ j. head .before .before .before .before .before .shared-slice-known2 .given j .fits) in
-    let b = log-begun (start .pre .0) known (a .out .now) (start .pre .1) (head .put-bytes .ensures) in
     let small = sizes-small (start .pre .0) known (a .out .now) (start .pre .1) (certified .put-certified .ensures .0) in
     (omega (arith, start .pre .0 .records), omega (arith, start .pre .0 .few), small)
 
@@ -62,7 +61,6 @@ add-at c =
     let start = head .before .before .before .before .before .before .before .before in
     let a = start .args in
     let known = bytes-each (a .log .now) (λ j. head .before .before .before .before .before .shared-slice-known2 .given j .fits) in
-    let b = log-begun (start .pre .0) known (a .out .now) (start .pre .1) (head .put-bytes .ensures) in
     let small = sizes-small (start .pre .0) known (a .out .now) (start .pre .1) (certified .put-certified .ensures .0) in
     omega (arith, small)
 
@@ -73,7 +71,6 @@ add-at-2 c =
     let start = head .before .before .before .before .before .before .before .before in
     let a = start .args in
     let known = bytes-each (a .log .now) (λ j. head .before .before .before .before .before .shared-slice-known2 .given j .fits) in
-    let b = log-begun (start .pre .0) known (a .out .now) (start .pre .1) (head .put-bytes .ensures) in
     let small = sizes-small (start .pre .0) known (a .out .now) (start .pre .1) (certified .put-certified .ensures .0) in
     omega (arith, small)
 
@@ -84,7 +81,6 @@ add-at-3 c =
     let start = head .before .before .before .before .before .before .before .before in
     let a = start .args in
     let known = bytes-each (a .log .now) (λ j. head .before .before .before .before .before .shared-slice-known2 .given j .fits) in
-    let b = log-begun (start .pre .0) known (a .out .now) (start .pre .1) (head .put-bytes .ensures) in
     let small = sizes-small (start .pre .0) known (a .out .now) (start .pre .1) (certified .put-certified .ensures .0) in
     omega (arith, small)
 
@@ -95,10 +91,8 @@ sub-end c =
     let start = head .before .before .before .before .before .before .before .before in
     let a = start .args in
     let known = bytes-each (a .log .now) (λ j. head .before .before .before .before .before .shared-slice-known2 .given j .fits) in
-    let b = log-begun (start .pre .0) known (a .out .now) (start .pre .1) (head .put-bytes .ensures) in
-    let put = rest-put b refl (certified .put-certified .ensures .1) in
-    let sizes = certified .put-certified .ensures .0 in
-    let d = trailer-begun (start .pre .0) known (a .out .now) (start .pre .1) sizes (put .1) in
+    let made = certified .put-certified .ensures in
+    let d = certified-put (start .pre .0) known (a .out .now) (start .pre .1) (made .0) (head .put-bytes .ensures) (made .1) in
     omega (arith, rest-inside d)
 
 part-end-start : tie.Need-part-end-start
@@ -108,10 +102,8 @@ part-end-start c =
     let start = head .before .before .before .before .before .before .before .before in
     let a = start .args in
     let known = bytes-each (a .log .now) (λ j. head .before .before .before .before .before .shared-slice-known2 .given j .fits) in
-    let b = log-begun (start .pre .0) known (a .out .now) (start .pre .1) (head .put-bytes .ensures) in
-    let put = rest-put b refl (certified .put-certified .ensures .1) in
-    let sizes = certified .put-certified .ensures .0 in
-    let d = trailer-begun (start .pre .0) known (a .out .now) (start .pre .1) sizes (put .1) in
+    let made = certified .put-certified .ensures in
+    let d = certified-put (start .pre .0) known (a .out .now) (start .pre .1) (made .0) (head .put-bytes .ensures) (made .1) in
     omega (arith, rest-inside d)
 
 put-trailer-requires : tie.Need-put-trailer-requires
@@ -122,10 +114,8 @@ put-trailer-requires c κs =
     let start = head .before .before .before .before .before .before .before .before in
     let a = start .args in
     let known = bytes-each (a .log .now) (λ j. head .before .before .before .before .before .shared-slice-known2 .given j .fits) in
-    let b = log-begun (start .pre .0) known (a .out .now) (start .pre .1) (head .put-bytes .ensures) in
-    let put = rest-put b refl (certified .put-certified .ensures .1) in
-    let sizes = certified .put-certified .ensures .0 in
-    let d = trailer-begun (start .pre .0) known (a .out .now) (start .pre .1) sizes (put .1) in
+    let made = certified .put-certified .ensures in
+    let d = certified-put (start .pre .0) known (a .out .now) (start .pre .1) (made .0) (head .put-bytes .ensures) (made .1) in
     rw (c .before .before .before .before .trailer-fields .ensures) (rest-room d)
 
 add-result : tie.Need-add-result
@@ -136,10 +126,8 @@ add-result c =
     let start = head .before .before .before .before .before .before .before .before in
     let a = start .args in
     let known = bytes-each (a .log .now) (λ j. head .before .before .before .before .before .shared-slice-known2 .given j .fits) in
-    let b = log-begun (start .pre .0) known (a .out .now) (start .pre .1) (head .put-bytes .ensures) in
-    let put = rest-put b refl (certified .put-certified .ensures .1) in
-    let sizes = certified .put-certified .ensures .0 in
-    let d = trailer-begun (start .pre .0) known (a .out .now) (start .pre .1) sizes (put .1) in
+    let made = certified .put-certified .ensures in
+    let d = certified-put (start .pre .0) known (a .out .now) (start .pre .1) (made .0) (head .put-bytes .ensures) (made .1) in
     let e = rw (c .before .before .before .before .before .before .before .trailer-fields .ensures) at (c .before .before .put-trailer .ensures) in
     omega (arith, rest-inside d, begun-long d, e .0)
 
@@ -151,12 +139,10 @@ returns c =
     let start = head .before .before .before .before .before .before .before .before in
     let a = start .args in
     let known = bytes-each (a .log .now) (λ j. head .before .before .before .before .before .shared-slice-known2 .given j .fits) in
-    let b = log-begun (start .pre .0) known (a .out .now) (start .pre .1) (head .put-bytes .ensures) in
-    let put = rest-put b refl (certified .put-certified .ensures .1) in
-    let sizes = certified .put-certified .ensures .0 in
-    let d = trailer-begun (start .pre .0) known (a .out .now) (start .pre .1) sizes (put .1) in
+    let made = certified .put-certified .ensures in
+    let d = certified-put (start .pre .0) known (a .out .now) (start .pre .1) (made .0) (head .put-bytes .ensures) (made .1) in
     let e = rw (c .before .before .before .before .before .before .before .trailer-fields .ensures) at (c .before .before .put-trailer .ensures) in
-    let whole = bytes-parts (start .pre .0) known sizes in
+    let whole = bytes-parts (start .pre .0) known (made .0) in
     let end = rest-put d (e .0) (e .1) in
     (end .0 ∙ sym (ap length whole), end .1 ∙ ap (λ z. over z (a .out .now)) (sym whole))
 
