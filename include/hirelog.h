@@ -242,7 +242,7 @@ struct hirelog_written {
  *                         whatever cluster or replica it is of: lend whole items, without anything
  *                         between them, with signatures of the roster's length;
  *   HIRELOG_NO_LEADER     if the items do not show who led some term of the log: lend more of them,
- *                         or fewer records. It is told also where the output is too short;
+ *                         or fewer records. This number is given even if the output is too short;
  *   HIRELOG_SHORT_OUTPUT  if output_len is below the length of the submission: lend
  *                         HIRELOG_ASSEMBLED_MAX bytes, which always do.
  * No other number is returned.
@@ -256,6 +256,9 @@ struct hirelog_written {
  *   - for each term that candidate's stamp;
  *   - a commit certificate for the highest index at which a quorum of replicas has receipts which
  *     fit the log, with those of all replicas; none if there is no such index.
+ * A vote fits the log if it is for that candidate in that term, and its last term, index and pointer
+ * are those of the record before the term's first (0, 0 and pointer 0 where there is none); a receipt,
+ * if its term, index and pointer are those of the record at that index, as is a stamp on a record.
  * Votes, stamps and receipts are those of good items. Passed over are items with another cluster's
  * name, of a number that no replica of the roster has, with a bad signature, or on a statement that
  * does not fit the log. Of several good ones of one replica on one statement the first counts. An

@@ -1,4 +1,5 @@
 //! Assembles a submission:  cargo run --example assemble -- ROSTER LOG ITEMS OUTPUT
+//! OUTPUT is overwritten, also where it is one of the others; the command hirelog asks before.
 //!
 //! From rust/, with the library built:
 //! HIRELOG_LIB_DIR=../target/staticlib \

@@ -58,13 +58,13 @@ impl AssembleRefused {
 
 impl fmt::Display for AssembleRefused {
     fn fmt(&self, to: &mut fmt::Formatter) -> fmt::Result {
-        let place = match self {
-            AssembleRefused::Roster(_) => "the roster",
-            AssembleRefused::Log(_) => "the log",
-            AssembleRefused::Item | AssembleRefused::NoLeader => "the items",
-            AssembleRefused::ShortOutput => "the output",
-        };
-        write!(to, "{} in {place}", self.word())
+        match self {
+            AssembleRefused::Roster(_) => write!(to, "{} in the roster", self.word()),
+            AssembleRefused::Log(_) => write!(to, "{} in the log", self.word()),
+            AssembleRefused::Item => write!(to, "an item that is cut short or of no kind"),
+            AssembleRefused::NoLeader => write!(to, "no leader of some term in the items"),
+            AssembleRefused::ShortOutput => write!(to, "an output shorter than the submission"),
+        }
     }
 }
 
@@ -141,10 +141,14 @@ mod tests {
             let expected = [2, 3, 4, 8, 11, 19, 20, 21].contains(&number).then_some(number);
             assert_eq!(refused, expected);
         }
-        let told =
-            [4, 8, 19, 21].map(|number| AssembleRefused::of(number).expect("one").to_string());
-        let words = ["twin key in the roster", "counts in the log", "item in the items"];
-        assert_eq!(told[..3], words);
-        assert_eq!(told[3], "short output in the output");
+        for (number, told) in [
+            (4, "twin key in the roster"),
+            (8, "counts in the log"),
+            (19, "an item that is cut short or of no kind"),
+            (20, "no leader of some term in the items"),
+            (21, "an output shorter than the submission"),
+        ] {
+            assert_eq!(AssembleRefused::of(number).expect("one").to_string(), told);
+        }
     }
 }

@@ -2,7 +2,7 @@
 
 use crate::numbers::Number;
 use crate::report::replicas_of;
-use crate::{sys, Refusal, SUBMISSION_MAX};
+use crate::{sys, Refusal, REPLICAS, SUBMISSION_MAX};
 use std::fmt;
 
 /// The most submissions of a run.
@@ -146,6 +146,9 @@ pub fn read_district_report(bytes: &[u8], count: usize) -> Option<District> {
         refusals.push(refusal);
     }
     let named = replicas_of(u16::from_be_bytes([after[0], after[1]]));
+    if named.last().is_some_and(|&replica| replica > REPLICAS) {
+        return None;
+    }
     let fork = match (usize::from(after[2]), usize::from(after[3])) {
         (0, 0) => None,
         (lower, higher) if 0 < lower && lower < higher && higher <= count => Some((lower, higher)),
@@ -173,13 +176,17 @@ mod tests {
         assert_eq!((found.named, found.fork), ((1..=9).collect(), Some((8, 9))));
     }
 
-    /// Bytes that no run leaves: too few, a number that is no submission's, or a pair that is none.
+    /// Bytes that no run leaves: too few, a number that is no submission's, a replica that no roster
+    /// has, or a pair that is none.
     #[test]
     fn no_reports() {
         assert_eq!(read_district_report(&[0; 5], 2), None);
         assert_eq!(read_district_report(&[0; 13], usize::MAX), None);
         for number in [1, 2, 3, 4, 16, 17, 18, 255] {
             assert_eq!(read_district_report(&[0, number, 0, 0, 0, 0], 2), None, "{number}");
+        }
+        for bit in 1..7 {
+            assert_eq!(read_district_report(&[0, 0, 1 << bit, 0, 0, 0], 2), None, "{bit}");
         }
         for pair in [[0, 1], [1, 0], [1, 1], [2, 1], [1, 3]] {
             assert_eq!(read_district_report(&[&[0; 4][..], &pair].concat(), 2), None, "{pair:?}");

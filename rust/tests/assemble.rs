@@ -117,6 +117,20 @@ fn missing_items() {
     assert_eq!(empty.len(), 44);
 }
 
+/// Roster, log and items may overlap each other: here the other two stand inside an item of no board.
+#[test]
+fn overlapping() {
+    let [roster, submission] = ["roster", "first"].map(|file| sample("one_leader", file));
+    let Apart { log, items } = Apart::of(&roster, &submission);
+    let mut nobody = items[2].clone();
+    nobody[..2].fill(0);
+    let at = nobody.len() - roster.len() - log.len();
+    nobody[at..].copy_from_slice(&[&roster[..], &log].concat());
+    let bag = [nobody, items.concat()].concat();
+    let (first, rest) = bag[at..].split_at(roster.len());
+    assert!(assemble(first, &rest[..log.len()], &bag) == Ok(submission));
+}
+
 /// Each number, in their order, each with the later faults too; nothing is written.
 #[test]
 fn numbers() {

@@ -240,7 +240,7 @@ int LLVMFuzzerTestOneInput(const uint8_t *data, size_t size)
                                        expected, input.output_len, &length);
     struct hirelog_written written =
         hirelog_assemble(lent[ROSTER], input.lens[ROSTER], lent[LOG], input.lens[LOG], lent[ITEMS],
-                         input.lens[ITEMS], offered, input.output_len);
+                         input.lens[ITEMS], input.output_len ? offered : NULL, input.output_len);
     if (written.number != number)
         fail("another number than the auditor's");
     if (written.length != length)

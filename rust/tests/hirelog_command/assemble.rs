@@ -468,7 +468,11 @@ fn replaced() {
     assert!(fs::read(&old).expect("a file") == parts.submission);
     assert_eq!(fs::metadata(&old).expect("a file").permissions().mode() & 0o777, 0o640);
     assert!(link.is_symlink());
-    assert_eq!(fs::read_dir(&parts.folder.0).expect("a folder").count(), 5);
+    fs::remove_file(&old).expect("removed");
+    let run = with_options("assemble", &[], &arguments);
+    run.fails(74, &["is a link that leads nowhere: name the file"]);
+    assert!(link.is_symlink());
+    assert_eq!(fs::read_dir(&parts.folder.0).expect("a folder").count(), 4);
 }
 
 /// What never ends: the library's numbers for roster and log, and too long for items.

@@ -89,8 +89,9 @@ fn incomplete_folder() {
 fn once() {
     let folder = Folder::new("once");
     let none = folder.0.join("none");
-    for name in ["audit", "district", "check"] {
-        let run = with_options(name, &[], &[&none, &none, &none]);
+    for name in ["audit", "district", "check", "assemble"] {
+        let options: &[&str] = if name == "assemble" { &["-o", "/dev/null"] } else { &[] };
+        let run = with_options(name, options, &[&none, &none, &none]);
         run.fails(74, &["there is no file"]);
         assert_eq!(run.err.lines().count(), 1, "{run:?}");
     }
@@ -149,10 +150,15 @@ fn forbidden() {
     let told_of_file = format!("{} may not be read (permission denied): ask", quoted(&file));
     let told_of_folder = format!("the folder {} may not be read (permission", quoted(&locked));
     let runs = in_each_place(&file).into_iter().map(|arguments| (arguments, &told_of_file));
-    let folders = [("audit", &locked, &told_of_folder), ("district", &locked, &told_of_folder)]
-        .into_iter()
-        .chain([("district", &unlisted, &told_of_unlisted)])
-        .map(|(name, folder, told)| (vec![name.into(), folder.clone()], told));
+    let folders = [
+        ("audit", &locked, &told_of_folder),
+        ("district", &locked, &told_of_folder),
+        ("district", &unlisted, &told_of_unlisted),
+    ]
+    .map(|(name, folder, told)| (vec![name.into(), folder.clone()], told));
+    let output = ["-o", "/dev/null"].map(PathBuf::from);
+    let assembled = [PathBuf::from("assemble"), locked.clone()].into_iter().chain(output).collect();
+    let folders = folders.into_iter().chain([(assembled, &told_of_folder)]);
     for (arguments, told) in runs.chain(folders) {
         let mut run = command(&arguments);
         if is_root {

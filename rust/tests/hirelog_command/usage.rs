@@ -4,7 +4,7 @@ use crate::*;
 
 #[test]
 fn wrong_uses() {
-    let uses: [(&[&str], &str); 36] = [
+    let uses: [(&[&str], &str); 37] = [
         (&[], "name a command: audit, district, assemble, check, sha256"),
         (&["adit", "x"], "no command \"adit\", but audit, district, assemble, check, sha256"),
         (&[""], "there is no command \"\""),
@@ -15,6 +15,7 @@ fn wrong_uses() {
             "options stand after the command: name one first: audit, district, assemble, check,",
         ),
         (&["--explain", "x"], "options stand after the command: name one first"),
+        (&["-o", "x", "assemble", "a"], "options stand after the command: name one first"),
         (&["--loud", "audit", "x"], "there is no option \"--loud\""),
         (&["help", "adit"], "no command \"adit\", but audit, district, assemble, check, sha256"),
         (&["audit", "-"], "standard input is not read, but /dev/stdin can be named"),

@@ -1,15 +1,15 @@
 //! hirelog assemble: a submission of a log, and of the signatures for it that items have.
 
-use crate::answer::{Answer, Failure, RefusedFile, Remark, Status};
-use crate::audit::{joined, number_remark};
-use crate::files::{counted, grouped, in_folder, list, one_file, read_all, write_whole, Input};
-use crate::formats::{self, Item, Items, STAMP};
-use crate::usage::{written as written_name, wrong_count, wrong_use, Command, Run};
+mod refused;
+mod written;
+
+use crate::answer::{Answer, Failure, Status};
+use crate::files::{in_folder, one_file, read_all, write_whole, Input};
+use crate::formats::{self, Items};
+use crate::usage::{wrong_count, wrong_use, Command, Run};
 use crate::{audit, district, hints, json};
 use hirelog::numbers::Number;
-use hirelog::{assemble_into, read_submission, sys, AssembleRefused, Contents, Refusal};
-use hirelog::{Commit, Leader, RECORD_SIZE};
-use std::collections::BTreeSet;
+use hirelog::{Contents, Leader, RECORD_SIZE};
 use std::path::{Path, PathBuf};
 
 pub const COMMAND: Command = Command {
@@ -55,10 +55,6 @@ const INSTEAD: &str = "name the three files (hirelog assemble ROSTER LOG ITEMS -
 /// that can fit a log, with the longest signatures. The library has no limit for items.
 const READ_MAX: usize = 268_435_456;
 
-/// The most records and terms of a log.
-const RECORDS_MAX: usize = 4096;
-const TERMS_MAX: usize = 64;
-
 /// The records of one term in a log, by the indexes of its first and its last.
 struct TermRecords {
     term: u32,
@@ -97,9 +93,9 @@ fn run(operands: &[PathBuf], output: &Path) -> Result<Answer, Failure> {
     match hirelog::assemble(&roster.bytes, &log.bytes, &items.bytes) {
         Ok(submission) => {
             write_whole(output, &submission)?;
-            Ok(written(&files, output, &submission))
+            Ok(written::written(&files, output, &submission))
         }
-        Err(refused) => Ok(refusal(&files, output, &refused)),
+        Err(refused) => Ok(refused::refusal(&files, output, &refused)),
     }
 }
 
@@ -121,55 +117,11 @@ fn items_of([roster, _, items]: &[Input; 3]) -> Option<Items<'_>> {
     Some(formats::items(&items.bytes, formats::roster_signature_size(&roster.bytes)?))
 }
 
-/// Boards in words.
-fn boards(replicas: &[usize]) -> String {
-    match replicas {
-        [] => "no board".into(),
-        [replica] => format!("board {replica}"),
-        _ => {
-            let numbers: Vec<String> = replicas.iter().map(usize::to_string).collect();
-            format!("boards {}", list(&numbers, "and"))
-        }
-    }
-}
-
-// ---- a submission is written
-
-/// The answer where the submission is written.
-fn written(files: &[Input; 3], output: &Path, submission: &[u8]) -> Answer {
-    let contents = read_submission(submission).expect("what was assembled");
-    let mut lines = vec![
-        "refusal 0".to_string(),
-        format!("length {}", submission.len()),
-        format!("records {}", contents.records),
-    ];
-    let mut remarks = vec![
-        Remark {
-            line: lines[0].clone(),
-            meaning: format!(
-                "A submission was assembled, and is written to {output:?}. It has the log's \
-                 records, and is accepted against this roster."
-            ),
-            advice: "Use it as any other: hirelog audit and hirelog district take it.".into(),
-        },
-        length_remark(&lines[1], submission.len(), &contents, items_of(files)),
-        records_remark(&lines[2], &contents),
-    ];
-    for (leader, records) in contents.leaders.iter().zip(terms(&files[1].bytes)) {
-        let line = leader_line(leader);
-        remarks.push(leader_remark(&line, leader, &records));
-        lines.push(line);
-    }
-    let line = commit_line(contents.commit.as_ref());
-    remarks.push(commit_remark(&line, &contents));
-    lines.push(line);
-    Answer {
-        status: Status::NothingFound,
-        lines: joined(&lines),
-        members: members(files, output, 0, submission.len(), &contents),
-        remarks,
-        refused: Vec::new(),
-        hints: empty_log(&files[1], output, submission.len()).into_iter().collect(),
+/// The records of a term, in words.
+fn span(records: &TermRecords) -> String {
+    match records.first == records.last {
+        true => format!("record {}", records.first),
+        false => format!("records {} to {}", records.first, records.last),
     }
 }
 
@@ -184,282 +136,6 @@ fn leader_line(leader: &Leader) -> String {
         k => format!("term {} board {k} signers{}", leader.term, signers(&leader.signers)),
     }
 }
-
-fn commit_line(commit: Option<&Commit>) -> String {
-    match commit {
-        Some(commit) => format!("commit {} signers{}", commit.index, signers(&commit.signers)),
-        None => "commit 0".into(),
-    }
-}
-
-fn length_remark(line: &str, length: usize, contents: &Contents, items: Option<Items>) -> Remark {
-    let votes: usize = contents.leaders.iter().map(|leader| leader.signers.len()).sum();
-    let receipts = contents.commit.as_ref().map_or(0, |commit| commit.signers.len());
-    let used = votes + contents.leaders.len() + receipts;
-    let given = items.map_or(0, |items| items.whole.len());
-    Remark {
-        line: line.into(),
-        meaning: format!(
-            "The submission has {}. Of {} it took in {used}: {}, {} and {}.",
-            counted(length, "byte"),
-            counted(given, "item"),
-            counted(votes, "vote"),
-            counted(contents.leaders.len(), "stamp"),
-            counted(receipts, "receipt")
-        ),
-        advice: match given == used {
-            true => "Nothing.".into(),
-            false => "Nothing. The other items are repeats, are not needed, do not fit the log, \
-                are bad, or are of another district."
-                .into(),
-        },
-    }
-}
-
-fn records_remark(line: &str, contents: &Contents) -> Remark {
-    Remark {
-        line: line.into(),
-        meaning: format!(
-            "The log has {}, of {}.",
-            counted(contents.records, "record"),
-            counted(contents.leaders.len(), "term")
-        ),
-        advice: "See that these are as many as you meant.".into(),
-    }
-}
-
-fn leader_remark(line: &str, leader: &Leader, records: &TermRecords) -> Remark {
-    Remark {
-        line: line.into(),
-        meaning: format!(
-            "Board {} led term {}, in which {} of the log {} added: it has votes of {}, and it \
-             stamped record {}.",
-            leader.candidate,
-            leader.term,
-            span(records),
-            if records.first == records.last { "was" } else { "were" },
-            boards(&leader.signers),
-            records.last
-        ),
-        advice: "Nothing.".into(),
-    }
-}
-
-/// The records of a term, in words.
-fn span(records: &TermRecords) -> String {
-    match records.first == records.last {
-        true => format!("record {}", records.first),
-        false => format!("records {} to {}", records.first, records.last),
-    }
-}
-
-fn commit_remark(line: &str, contents: &Contents) -> Remark {
-    const MORE: &str = "bring in more receipts, and assemble again: an audit finds forks among \
-        committed records alone.";
-    let (meaning, advice) = match &contents.commit {
-        Some(commit) => (
-            format!(
-                "The records up to {} are committed: {} gave receipts for it.",
-                commit.index,
-                boards(&commit.signers)
-            ),
-            match contents.records - commit.index as usize {
-                0 => "Nothing.".into(),
-                1 => format!("If the one after it was committed too, {MORE}"),
-                more => format!("If any of the {more} after it was committed too, {MORE}"),
-            },
-        ),
-        None if contents.records == 0 => {
-            ("There is nothing to commit in an empty log.".into(), "Nothing.".into())
-        }
-        None => (
-            "No record is committed: for none are there good receipts of a quorum that fit the \
-             log."
-                .into(),
-            format!("If one was committed, {MORE}"),
-        ),
-    };
-    Remark { line: line.into(), meaning, advice }
-}
-
-fn empty_log(log: &Input, output: &Path, length: usize) -> Option<String> {
-    let told = format!(
-        "{} is empty, so {output:?} is now the submission of an empty log, of {}: if that was not \
-         meant, copy the log again and assemble again",
-        log.name(),
-        counted(length, "byte")
-    );
-    log.bytes.is_empty().then_some(told)
-}
-
-// ---- nothing is written
-
-/// The answer where nothing is assembled.
-fn refusal(files: &[Input; 3], output: &Path, refused: &AssembleRefused) -> Answer {
-    let [roster, log, items] = files;
-    let number = refused.number();
-    let mut lines = vec![format!("refusal {number}")];
-    let mut remark = number_remark(&lines[0], number);
-    let mut contents = Contents { records: 0, leaders: Vec::new(), commit: None };
-    let mut more = Vec::new();
-    let subject = match refused {
-        AssembleRefused::Roster(_) => format!("the roster {} was", roster.described()),
-        AssembleRefused::Log(refusal) => {
-            (remark.meaning, remark.advice) = about_log(*refusal, &log.bytes);
-            format!("the log {} was", log.described())
-        }
-        AssembleRefused::NoLeader => {
-            let records = leaderless(files);
-            let none = Leader { term: records.term, candidate: 0, signers: Vec::new() };
-            more.push(leaderless_remark(&leader_line(&none), &records, files));
-            lines.push(leader_line(&none));
-            contents.leaders.push(none);
-            remark.meaning += &format!(" The first such term is {}.", records.term);
-            format!("the items {} were", items.described())
-        }
-        AssembleRefused::Item | AssembleRefused::ShortOutput => {
-            format!("the items {} were", items.described())
-        }
-    };
-    let told = format!("{subject} refused: number {number}, {}", refused.word());
-    let why = remark.meaning;
-    remark.meaning =
-        format!("T{}. {why} Nothing was written: {output:?} is left as it was.", &told[1..]);
-    Answer {
-        status: Status::Refused,
-        lines: joined(&lines),
-        members: members(files, output, number, 0, &contents),
-        remarks: [remark].into_iter().chain(more).collect(),
-        refused: vec![RefusedFile { told, why }],
-        hints: hints::refused_assembling(files, refused),
-    }
-}
-
-/// What number 8 or 11 means of a log, and what to do.
-fn about_log(refusal: Refusal, log: &[u8]) -> (String, String) {
-    let (records, left) = (log.len() / RECORD_SIZE, log.len() % RECORD_SIZE);
-    let terms = terms(log);
-    if refusal == Refusal::Counts {
-        let most = grouped(RECORDS_MAX);
-        let here = match (records, left) {
-            (..=RECORDS_MAX, 0) => format!("more than {TERMS_MAX} terms"),
-            (..=RECORDS_MAX, _) => {
-                format!("{}, and {} more", counted(records, "record"), counted(left, "byte"))
-            }
-            _ => format!("more than {most} records"),
-        };
-        let meaning = format!(
-            "The log ends inside a record of {RECORD_SIZE} bytes, or has more than {most} records \
-             or {TERMS_MAX} terms. This one has {here}."
-        );
-        let advice = "See that it is a log, whole, and nothing else. One that is too long can be \
-            assembled up to the end of one of its terms.";
-        return (meaning, advice.into());
-    }
-    let meaning = "The term of a record in the log is 0, or below that of the record before.";
-    let zero = terms.first().filter(|first| first.term == 0).map(|first| (first, None));
-    let falls = || terms.windows(2).find(|pair| pair[1].term < pair[0].term);
-    let wrong = zero.or_else(|| falls().map(|pair| (&pair[1], Some(pair[0].term))));
-    let here = wrong.map_or(String::new(), |(records, before)| {
-        let after = before.map_or(String::new(), |term| format!(" after {term}"));
-        format!(" Record {} has term {}{after}.", grouped(records.first), records.term)
-    });
-    let advice = "Copy it again from where it came. If that does not help, ask the board whose \
-        log it is for another.";
-    (format!("{meaning}{here}"), advice.into())
-}
-
-/// The first term without a leader, of a log that has one. Whether all terms up to one have leaders
-/// is the library's to say, of the log up to that term's end: without an output it answers 20 if not.
-fn leaderless([roster, log, items]: &[Input; 3]) -> TermRecords {
-    let mut terms = terms(&log.bytes);
-    let place = first_leaderless(&terms, |records| {
-        let beginning = &log.bytes[..RECORD_SIZE * records.last];
-        let found = assemble_into(&roster.bytes, beginning, &items.bytes, &mut []);
-        found.number != sys::NO_LEADER
-    });
-    terms.swap_remove(place)
-}
-
-/// The place of the first term without a leader, where not all have one: by halves, asking of a term
-/// whether all up to it have leaders.
-fn first_leaderless(terms: &[TermRecords], mut led: impl FnMut(&TermRecords) -> bool) -> usize {
-    let (mut low, mut high) = (0, terms.len() - 1);
-    while low < high {
-        let middle = (low + high) / 2;
-        match led(&terms[middle]) {
-            true => low = middle + 1,
-            false => high = middle,
-        }
-    }
-    low
-}
-
-/// What the first term without a leader needs, and what the items have for it by their fields.
-fn leaderless_remark(line: &str, records: &TermRecords, files: &[Input; 3]) -> Remark {
-    let replicas = formats::replica_count(&files[0].bytes).unwrap_or(0);
-    let (end, shorter) = match records.first - 1 {
-        0 => ("an empty log".into(), String::new()),
-        before => (
-            format!("a log that ends with record {before}"),
-            format!(
-                ", or assemble the log's first {}: `head -c {} {} > SHORTER`",
-                counted(before, "record"),
-                RECORD_SIZE * before,
-                written_name(files[1].path().as_os_str())
-            ),
-        ),
-    };
-    Remark {
-        line: line.into(),
-        meaning: format!(
-            "The items do not show who led term {} ({}). Its leader needs the votes of {} of \
-             the {replicas} boards, its own among them, each on {end}, and its stamp on record {}.",
-            records.term,
-            span(records),
-            formats::quorum(replicas),
-            records.last
-        ),
-        advice: format!(
-            "Bring in what is missing{shorter}. Of this term the items have (whether or not they \
-             are good and fit the log) {}. If these are enough, then the log or roster is not the \
-             one they were signed for, or a signature is damaged: copy log, roster and items again.",
-            given(records.term, replicas, files)
-        ),
-    }
-}
-
-/// What the items have for each board that may have led a term of so many boards, by their fields.
-fn given(term: u32, replicas: usize, files: &[Input; 3]) -> String {
-    let name = formats::roster_name(&files[0].bytes);
-    let known = 1..=replicas;
-    let of_term = |item: &Item| {
-        item.term() == term && Some(item.name()) == name && known.contains(&item.replica)
-    };
-    let items = items_of(files).map_or(Vec::new(), |items| items.whole);
-    let items: Vec<Item> = items.into_iter().filter(of_term).collect();
-    let for_board = |board: usize| {
-        let votes = items.iter().filter(|item| item.candidate() == Some(board));
-        let voters: BTreeSet<usize> = votes.map(|item| item.replica).collect();
-        let stamped = items.iter().any(|item| item.kind() == STAMP && item.replica == board);
-        let numbers: Vec<String> = voters.iter().map(usize::to_string).collect();
-        let votes = match numbers.len() {
-            0 => "no votes".into(),
-            1 => format!("vote of {}", numbers[0]),
-            _ => format!("votes of {}", list(&numbers, "and")),
-        };
-        let stamp = if stamped { "stamp" } else { "no stamp" };
-        let told = format!("for board {board}: {votes}, {stamp}");
-        (stamped || !voters.is_empty()).then_some(told)
-    };
-    let told: Vec<String> = known.clone().filter_map(for_board).collect();
-    match told.is_empty() {
-        true => "no vote and no stamp".into(),
-        false => told.join("; "),
-    }
-}
-
-// ---- both
 
 /// The answer as members of an object.
 fn members(
@@ -502,7 +178,7 @@ mod tests {
     use super::*;
 
     /// A log of records with these terms.
-    fn log(terms: &[u32]) -> Vec<u8> {
+    pub fn log(terms: &[u32]) -> Vec<u8> {
         terms.iter().flat_map(|term| [&term.to_be_bytes()[..], &[0; 32]].concat()).collect()
     }
 
@@ -514,40 +190,5 @@ mod tests {
         let found: Vec<_> = terms(&bytes).iter().map(|t| (t.term, t.first, t.last)).collect();
         assert_eq!(found, [(1, 1, 2), (5, 3, 3), (7, 4, 6)]);
         assert!(terms(&[]).is_empty());
-    }
-
-    /// The first of up to 64 terms that has no leader, whichever it is, in six questions at most.
-    #[test]
-    fn search() {
-        for count in 1..=TERMS_MAX {
-            let terms = terms(&log(&(1..=count as u32).collect::<Vec<_>>()));
-            for first in 0..count {
-                let mut asked = 0;
-                let found = first_leaderless(&terms, |records| {
-                    asked += 1;
-                    records.last <= first
-                });
-                assert_eq!(found, first);
-                assert!(asked <= 6, "{asked} of {count}");
-            }
-        }
-    }
-
-    /// What is wrong with a log is said of this very one.
-    #[test]
-    fn logs() {
-        let counts = |bytes: &[u8]| about_log(Refusal::Counts, bytes).0;
-        let order = |bytes: &[u8]| about_log(Refusal::TermOrder, bytes).0;
-        let many: Vec<u32> = (1..=65).collect();
-        for (told, end) in [
-            (counts(&log(&[1, 2])[1..]), "This one has 1 record, and 35 bytes more."),
-            (counts(&log(&[1; 4097])), "This one has more than 4,096 records."),
-            (counts(&log(&many)), "This one has more than 64 terms."),
-            (order(&log(&[0, 1])), "the record before. Record 1 has term 0."),
-            (order(&log(&[1, 7, 7, 5])), "the record before. Record 4 has term 5 after 7."),
-            (order(&log(&[2, 0])), "the record before. Record 2 has term 0 after 2."),
-        ] {
-            assert!(told.ends_with(end), "{told}");
-        }
     }
 }

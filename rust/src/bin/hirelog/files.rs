@@ -182,6 +182,12 @@ pub fn write_whole(path: &Path, bytes: &[u8]) -> Result<(), Failure> {
             );
             return Err(Failure { status: Status::Unreadable, messages: vec![why] });
         }
+        Err(_) if path.is_symlink() => {
+            let why = format!(
+                "{path:?} is a link that leads nowhere: name the file that is to be written itself"
+            );
+            return Err(Failure { status: Status::Unreadable, messages: vec![why] });
+        }
         Err(_) => replace(path, bytes, None),
     };
     written.map_err(|error| {

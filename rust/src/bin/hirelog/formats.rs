@@ -91,8 +91,8 @@ pub struct Item<'a> {
 
 /// The kinds of statements.
 pub const STAMP: u8 = 1;
-pub const RECEIPT: u8 = 2;
-pub const VOTE: u8 = 3;
+const RECEIPT: u8 = 2;
+const VOTE: u8 = 3;
 
 impl Item<'_> {
     pub fn kind(&self) -> u8 {

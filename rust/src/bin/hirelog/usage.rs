@@ -120,7 +120,8 @@ fn find(name: &OsString) -> Result<&'static Command, Failure> {
 fn option_first(arguments: &[OsString]) -> Failure {
     let count = arguments.iter().take_while(|argument| is_option(argument)).count();
     let (before, rest) = arguments.split_at(count);
-    let known = |option: &OsString| ["--explain", "--json", "--"].iter().any(|name| option == name);
+    let known =
+        |option: &OsString| ["--explain", "--json", "--", "-o"].iter().any(|name| option == name);
     if let Some(option) = before.iter().find(|option| !known(option)) {
         return wrong_usage(format!("there is no option {option:?}"), "hirelog");
     }

@@ -43,6 +43,7 @@ impl Cases<'_> {
         self.no_index();
         self.stamps_and_receipts();
         self.long_log();
+        self.longest_log();
     }
 
     /// Each set of indexes has a quorum, and the others one receipt too few.
@@ -163,11 +164,11 @@ impl Cases<'_> {
         self.writes("receipts and a stamp", &scene, &[(1, 0b1111)], Some((1, 0b1111)));
     }
 
-    /// A longer log of one term, committed at each of some indexes, with receipts of one replica for
-    /// the others. All of these have one leaf: nobody looks at that.
+    /// A longer log of one term, committed at each of some indexes, round powers of two among them,
+    /// with receipts of one replica for the others. All of these have one leaf: nobody looks at that.
     fn long_log(&mut self) {
         let signer = self.signer(3);
-        const LENGTH: usize = 40;
+        const LENGTH: usize = 200;
         let mut base = Scene::new(&signer, &log_of(&[3; LENGTH]));
         base.elect(0, 3, 0b101);
         let leaf = signer.leaves(1).end - 1;
@@ -176,12 +177,22 @@ impl Cases<'_> {
             let signature = signer.sign_with(1, leaf, &statement);
             base.bag.push(Made { item: Item { replica: 1, statement, signature }, good: true });
         }
-        for index in self.some(vec![1, 2, LENGTH / 2, LENGTH - 1, LENGTH], 2) {
+        let indexes = vec![1, 2, 63, 64, 65, 66, 127, 128, 129, 192, LENGTH - 1, LENGTH];
+        for index in self.some(indexes, 2) {
             let mut scene = base.clone();
             scene.add(0b010, &scene.receipt(index));
             scene.shuffle(&mut self.random);
             let name = format!("{LENGTH} records, a quorum at {index} alone");
             self.writes(&name, &scene, &[(3, 0b101)], Some((index as u32, 0b011)));
         }
+    }
+
+    /// The longest log, committed at its first record.
+    fn longest_log(&mut self) {
+        let signer = self.signer(3);
+        let mut scene = Scene::new(&signer, &log_of(&[7; 4096]));
+        scene.elect(0, 2, 0b110);
+        scene.add(0b101, &scene.receipt(1));
+        self.writes("4,096 records, a quorum at 1 alone", &scene, &[(2, 0b110)], Some((1, 0b101)));
     }
 }
