@@ -19,32 +19,32 @@ use Rattle.submission.specs.Validate.{formOf}
 use Rattle.assembly.specs.Items.{whole}
 use Rattle.assembly.specs.Assembly.{logCounted, recordsGiven, assembled, outputNumber, assembleNumber, assembledBytes, assembleLength, outputAfter}
 
-module _ (roster log bag output : List ℕ) where
+module _ (roster log itemBytes output : List ℕ) where
   -- ---- 20 and 21
 
-  pub none-led : assembled roster log bag ≡ none → outputNumber roster log bag output ≡ 20
+  pub none-led : assembled roster log itemBytes ≡ none → outputNumber roster log itemBytes output ≡ 20
   unfolding outputNumber Option·elim
   none-led e = rw e
 
-  pub output-short : (s : List ℕ) → assembled roster log bag ≡ some s → length output < length s → outputNumber roster log bag output ≡ 21
+  pub output-short : (s : List ℕ) → assembled roster log itemBytes ≡ some s → length output < length s → outputNumber roster log itemBytes output ≡ 21
   unfolding outputNumber Option·elim
   output-short s e h = rw e (refused 21 _ _ (lt-leb _ _ h))
 
-  pub output-enough : (s : List ℕ) → assembled roster log bag ≡ some s → length s ≤ length output → outputNumber roster log bag output ≡ 0
+  pub output-enough : (s : List ℕ) → assembled roster log itemBytes ≡ some s → length s ≤ length output → outputNumber roster log itemBytes output ≡ 0
   unfolding outputNumber Option·elim refusal
   output-enough s e h = rw e (passed 21 _ [] (le-leb _ _ h))
 
   -- neither
   pub record Fitted : Type 0 where
     pub bytes : List ℕ
-    pub made : assembled roster log bag ≡ some bytes
+    pub made : assembled roster log itemBytes ≡ some bytes
     pub room : length bytes ≤ length output
 
-  pub output-fits : outputNumber roster log bag output ≡ 0 → Fitted
+  pub output-fits : outputNumber roster log itemBytes output ≡ 0 → Fitted
   unfolding outputNumber Option·elim
-  output-fits e = go (assembled roster log bag) refl e
+  output-fits e = go (assembled roster log itemBytes) refl e
     where
-      go : (o : Option (List ℕ)) → assembled roster log bag ≡ o
+      go : (o : Option (List ℕ)) → assembled roster log itemBytes ≡ o
           → Option·elim o 20 (λ s. refusal (check 21 (leb (length s) (length output)) ∷ [])) ≡ 0 → Fitted
       go none is e = absurd (omega (arith, e))
       go (some s) is e = record { bytes = s; made = is; room = leb-true _ _ (accepted 21 _ _ (lit< tt) e .0) }
@@ -55,14 +55,14 @@ module _ (roster log bag output : List ℕ) where
     pub fine : rosterNumber roster ≡ 0
     pub counted : logCounted (formOf roster .termBytes) log ≡ true
     pub order : rising 1 (recordsGiven roster log) ≡ true
-    pub items : whole (formOf roster .termBytes) (signatureSize roster) bag ≡ true
+    pub items : whole (formOf roster .termBytes) (signatureSize roster) itemBytes ≡ true
     pub fitted : Fitted
 
-  pub all-passed : assembleNumber roster log bag output ≡ 0 → Passed
+  pub all-passed : assembleNumber roster log itemBytes output ≡ 0 → Passed
   unfolding assembleNumber
   all-passed e =
       let roster-passed = first-zero (rosterNumber roster) _ e in
-      let rest = first-zero _ (outputNumber roster log bag output) (roster-passed .1) in
+      let rest = first-zero _ (outputNumber roster log itemBytes output) (roster-passed .1) in
       let c8 = accepted 8 _ _ (lit< tt) (rest .0) in
       let c11 = accepted 11 _ _ (lit< tt) (c8 .1) in
       let c19 = accepted 19 _ _ (lit< tt) (c11 .1) in
@@ -71,30 +71,30 @@ module _ (roster log bag output : List ℕ) where
   -- ---- what is written
 
   -- nothing where it is refused
-  pub nothing-written : (assembleNumber roster log bag output ≡ 0 → ⊥) → assembledBytes roster log bag output ≡ []
+  pub nothing-written : (assembleNumber roster log itemBytes output ≡ 0 → ⊥) → assembledBytes roster log itemBytes output ≡ []
   unfolding assembledBytes
   nothing-written h = rw (ne-eqb _ 0 h)
 
-  pub refused-length : (assembleNumber roster log bag output ≡ 0 → ⊥) → assembleLength roster log bag output ≡ 0
+  pub refused-length : (assembleNumber roster log itemBytes output ≡ 0 → ⊥) → assembleLength roster log itemBytes output ≡ 0
   unfolding assembleLength
   refused-length h = ap length (nothing-written h)
 
-  pub refused-output : (assembleNumber roster log bag output ≡ 0 → ⊥) → outputAfter roster log bag output ≡ output
+  pub refused-output : (assembleNumber roster log itemBytes output ≡ 0 → ⊥) → outputAfter roster log itemBytes output ≡ output
   unfolding outputAfter
   refused-output h = ap (λ s. over s output) (nothing-written h) ∙ over-nothing output
 
   -- otherwise the submission
-  pub bytes-written : (s : List ℕ) → assembleNumber roster log bag output ≡ 0 → assembled roster log bag ≡ some s
-      → assembledBytes roster log bag output ≡ s
+  pub bytes-written : (s : List ℕ) → assembleNumber roster log itemBytes output ≡ 0 → assembled roster log itemBytes ≡ some s
+      → assembledBytes roster log itemBytes output ≡ s
   unfolding assembledBytes
   bytes-written s is-zero made = rw (eq-eqb _ 0 is-zero, made)
 
-  pub accepted-length : (s : List ℕ) → assembleNumber roster log bag output ≡ 0 → assembled roster log bag ≡ some s
-      → assembleLength roster log bag output ≡ length s
+  pub accepted-length : (s : List ℕ) → assembleNumber roster log itemBytes output ≡ 0 → assembled roster log itemBytes ≡ some s
+      → assembleLength roster log itemBytes output ≡ length s
   unfolding assembleLength
   accepted-length s is-zero made = ap length (bytes-written s is-zero made)
 
-  pub accepted-output : (s : List ℕ) → assembleNumber roster log bag output ≡ 0 → assembled roster log bag ≡ some s
-      → outputAfter roster log bag output ≡ over s output
+  pub accepted-output : (s : List ℕ) → assembleNumber roster log itemBytes output ≡ 0 → assembled roster log itemBytes ≡ some s
+      → outputAfter roster log itemBytes output ≡ over s output
   unfolding outputAfter
   accepted-output s is-zero made = ap (λ z. over z output) (bytes-written s is-zero made)

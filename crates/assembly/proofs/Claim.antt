@@ -56,7 +56,7 @@ module _ (form : Form) (log : List ℕ) where
 
 -- ---- the view
 
-module _ (roster log bag : List ℕ) where
+module _ (roster log itemBytes : List ℕ) where
   abbrev form : Form
   form = formOf roster
 
@@ -64,45 +64,45 @@ module _ (roster log bag : List ℕ) where
   S = signatureSize roster
 
   -- a lead for each term, or not: the bytes, or none
-  pub not-all-led : leadsFor form roster (itemsGiven roster bag) (runs (recordsGiven roster log)) ≡ none → assembled roster log bag ≡ none
+  pub not-all-led : leadsFor form roster (itemsGiven roster itemBytes) (runs (recordsGiven roster log)) ≡ none → assembled roster log itemBytes ≡ none
   unfolding assembled assembledView
   not-all-led e = rw e
 
-  pub all-led : (ls : List Lead) → leadsFor form roster (itemsGiven roster bag) (runs (recordsGiven roster log)) ≡ some ls
-      → assembled roster log bag ≡ some (encode S form 1 (viewWith roster log bag ls))
+  pub all-led : (ls : List Lead) → leadsFor form roster (itemsGiven roster itemBytes) (runs (recordsGiven roster log)) ≡ some ls
+      → assembled roster log itemBytes ≡ some (encode S form 1 (viewWith roster log itemBytes ls))
   unfolding assembled assembledView
   all-led ls e = rw e
 
   -- bytes only where there is one
   pub record MadeOf (s : List ℕ) : Type 0 where
     pub leads : List Lead
-    pub found : leadsFor form roster (itemsGiven roster bag) (runs (recordsGiven roster log)) ≡ some leads
-    pub encoded : encode S form 1 (viewWith roster log bag leads) ≡ s
+    pub found : leadsFor form roster (itemsGiven roster itemBytes) (runs (recordsGiven roster log)) ≡ some leads
+    pub encoded : encode S form 1 (viewWith roster log itemBytes leads) ≡ s
 
-  pub made-of : (s : List ℕ) → assembled roster log bag ≡ some s → MadeOf s
+  pub made-of : (s : List ℕ) → assembled roster log itemBytes ≡ some s → MadeOf s
   unfolding assembled assembledView
-  made-of s e = go (leadsFor form roster (itemsGiven roster bag) (runs (recordsGiven roster log))) refl e
+  made-of s e = go (leadsFor form roster (itemsGiven roster itemBytes) (runs (recordsGiven roster log))) refl e
     where
-      go : (o : Option (List Lead)) → leadsFor form roster (itemsGiven roster bag) (runs (recordsGiven roster log)) ≡ o
-          → Option·map (encode S form 1) (Option·map (viewWith roster log bag) o) ≡ some s → MadeOf s
+      go : (o : Option (List Lead)) → leadsFor form roster (itemsGiven roster itemBytes) (runs (recordsGiven roster log)) ≡ o
+          → Option·map (encode S form 1) (Option·map (viewWith roster log itemBytes) o) ≡ some s → MadeOf s
       go none is e = absurd (Option·some-ne-none s (sym e))
       go (some ls) is e = record { leads = ls; found = is; encoded = Option·some-injective _ _ e }
 
   module _ (fine : rosterNumber roster ≡ 0) (counted : logCounted (form .termBytes) log ≡ true) (order : rising 1 (recordsGiven roster log) ≡ true)
-      (items : whole (form .termBytes) S bag ≡ true) (bytes : Bytes log) (ls : List Lead)
-      (found : leadsFor form roster (itemsGiven roster bag) (runs (recordsGiven roster log)) ≡ some ls) where
+      (items : whole (form .termBytes) S itemBytes ≡ true) (bytes : Bytes log) (ls : List Lead)
+      (found : leadsFor form roster (itemsGiven roster itemBytes) (runs (recordsGiven roster log)) ≡ some ls) where
     abbrev records : List Record
     records = recordsGiven roster log
 
     abbrev is : List Item
-    is = itemsGiven roster bag
+    is = itemsGiven roster itemBytes
 
     few : replicas roster ≤ 16
     few = omega (arith, sizes roster fine .high)
 
     long : Long S is
     unfolding itemsOf whole
-    long = items-long (form .termBytes) S 0 bag items
+    long = items-long (form .termBytes) S 0 itemBytes items
 
     some-chosen : AreLeads form roster S is long (runs records) (some ls) → AllChosen form roster S is long (runs records) ls
     some-chosen (some-leads all) = all
@@ -115,34 +115,34 @@ module _ (roster log bag : List ℕ) where
     leads-few =
         omega (arith, leads-count form roster S is long (runs records) ls lead .0, distinct-runs records order, log-few form log counted .1)
 
-    pub view-writable : Writable roster (viewWith roster log bag ls)
+    pub view-writable : Writable roster (viewWith roster log itemBytes ls)
     unfolding viewWith
     view-writable =
         let short = log-few form log counted .0 in
         let o = commitTo form roster is (length records) records in
         let commit = commit-settled form roster S is long few records (length records) (le-refl (length records)) in
-        writable roster (viewWith roster log bag ls) fine
+        writable roster (viewWith roster log itemBytes ls) fine
         (view-fits form roster S is long few records (log-fits form log bytes) (omega (arith, short)) ls lead o commit)
         (sound form roster S is long records order ls lead o commit) short leads-few
         (all-genuine form roster S is long records order ls lead o commit)
 
 -- ---- the claim
 
-module _ (roster log bag output : List ℕ) where
+module _ (roster log itemBytes output : List ℕ) where
   -- what was written, read again
-  read-again : (s : List ℕ) → assembledBytes roster log bag output ≡ s
-      → take (assembleLength roster log bag output) (outputAfter roster log bag output) ≡ s
+  read-again : (s : List ℕ) → assembledBytes roster log itemBytes output ≡ s
+      → take (assembleLength roster log itemBytes output) (outputAfter roster log itemBytes output) ≡ s
   unfolding assembleLength outputAfter
-  read-again s e = over-taken (assembledBytes roster log bag output) output (length (assembledBytes roster log bag output)) refl ∙ e
+  read-again s e = over-taken (assembledBytes roster log itemBytes output) output (length (assembledBytes roster log itemBytes output)) refl ∙ e
 
   pub claim : Bytes log
-      → Assembled roster log (assembleNumber roster log bag output) (assembleLength roster log bag output) (outputAfter roster log bag output)
+      → Assembled roster log (assembleNumber roster log itemBytes output) (assembleLength roster log itemBytes output) (outputAfter roster log itemBytes output)
   unfolding Assembled viewWith
   claim bytes is-zero =
-      let ok = all-passed roster log bag output is-zero in
+      let ok = all-passed roster log itemBytes output is-zero in
       let s = ok .fitted .bytes in
-      let made = made-of roster log bag s (ok .fitted .made) in
-      let view = view-writable roster log bag (ok .fine) (ok .counted) (ok .order) (ok .items) bytes (made .leads) (made .found) in
-      let fine = written roster (viewWith roster log bag (made .leads)) view in
-      let same = read-again s (bytes-written roster log bag output s is-zero (ok .fitted .made)) ∙ sym (made .encoded) in
+      let made = made-of roster log itemBytes s (ok .fitted .made) in
+      let view = view-writable roster log itemBytes (ok .fine) (ok .counted) (ok .order) (ok .items) bytes (made .leads) (made .found) in
+      let fine = written roster (viewWith roster log itemBytes (made .leads)) view in
+      let same = read-again s (bytes-written roster log itemBytes output s is-zero (ok .fitted .made)) ∙ sym (made .encoded) in
       (ap (validate roster) same ∙ fine .0, ap (λ z. viewOf roster z .log) same ∙ fine .1)

@@ -47,12 +47,12 @@ bytes : ℕ → ℕ → List ℕ
 bytes kind more = 1 ∷ 2 ∷ kind ∷ replicate more 9
 
 -- no item; one of each kind; two items; one byte too few and one too many; two bytes and one; kinds 0 and 4
-bags : (whole 4 2 [] ≡ true) × (whole 4 2 (bytes 1 58) ≡ true) × (whole 4 2 (bytes 2 58) ≡ true) × (whole 4 2 (bytes 3 64) ≡ true)
+whole-items : (whole 4 2 [] ≡ true) × (whole 4 2 (bytes 1 58) ≡ true) × (whole 4 2 (bytes 2 58) ≡ true) × (whole 4 2 (bytes 3 64) ≡ true)
     × (whole 4 2 (bytes 3 64 ++ bytes 2 58) ≡ true) × (whole 4 2 (bytes 2 57) ≡ false) × (whole 4 2 (bytes 2 59) ≡ false)
     × (whole 4 2 (1 ∷ 2 ∷ []) ≡ false) × (whole 4 2 (1 ∷ []) ≡ false) × (whole 4 2 (bytes 0 58) ≡ false) × (whole 4 2 (bytes 4 64) ≡ false)
     × (whole 4 2 (bytes 1 58 ++ bytes 4 64) ≡ false)
 unfolding bytes whole wholeAfter firstSize itemSize statementSize ballotSize
-bags = (refl, refl, refl, refl, refl, refl, refl, refl, refl, refl, refl, refl)
+whole-items = (refl, refl, refl, refl, refl, refl, refl, refl, refl, refl, refl, refl)
 
 -- what two items say
 items : itemsOf 4 2 (bytes 3 62 ++ (7 ∷ 8 ∷ []) ++ bytes 1 56 ++ (5 ∷ 6 ∷ []))
@@ -157,14 +157,14 @@ module _ (form : Form) (roster : List ℕ) (is : List Item) where
 
 -- ---- the empty log
 
-module _ (roster bag : List ℕ) (fine : rosterNumber roster ≡ 0) (items-whole : whole 4 (signatureSize roster) bag ≡ true) where
+module _ (roster itemBytes : List ℕ) (fine : rosterNumber roster ≡ 0) (items-whole : whole 4 (signatureSize roster) itemBytes ≡ true) where
   nothing : View
   nothing = record { log = []; leaders = []; stamps = []; commit = none }
 
   empty-bytes : List ℕ
   empty-bytes = encode (signatureSize roster) (formOf roster) 1 nothing
 
-  made : assembled roster [] bag ≡ some empty-bytes
+  made : assembled roster [] itemBytes ≡ some empty-bytes
   unfolding assembled assembledView viewWith formOf version1 logOf recordSize recordsOf runs runsAfter leadsFor commitTo nothing empty-bytes
   made = refl
 
@@ -175,19 +175,19 @@ module _ (roster bag : List ℕ) (fine : rosterNumber roster ≡ 0) (items-whole
       simp (length-append, length-be, name)
 
   early : refusal (
-      check 8 (logCounted 4 []) ∷ check 11 (rising 1 (logOf 4 [])) ∷ check 19 (whole 4 (signatureSize roster) bag) ∷ []
+      check 8 (logCounted 4 []) ∷ check 11 (rising 1 (logOf 4 [])) ∷ check 19 (whole 4 (signatureSize roster) itemBytes) ∷ []
       )
       ≡ 0
   unfolding logCounted logOf recordSize recordsOf distinct rising all check refusal
   early = rw items-whole
 
-  number-is : (output : List ℕ) (r : ℕ) → outputNumber roster [] bag output ≡ r → assembleNumber roster [] bag output ≡ r
+  number-is : (output : List ℕ) (r : ℕ) → outputNumber roster [] itemBytes output ≡ r → assembleNumber roster [] itemBytes output ≡ r
   unfolding assembleNumber formOf version1
   number-is output r e = sym (first-accepted fine (first-accepted early (sym e)))
 
   -- accepted into 44 bytes, with any bag that is whole; one byte fewer is too small
-  empty-fits : (output : List ℕ) → length output ≡ 44 → assembleNumber roster [] bag output ≡ 0
-  empty-fits output e = number-is output 0 (output-enough roster [] bag output empty-bytes made (omega (arith, empty-length, e)))
+  empty-fits : (output : List ℕ) → length output ≡ 44 → assembleNumber roster [] itemBytes output ≡ 0
+  empty-fits output e = number-is output 0 (output-enough roster [] itemBytes output empty-bytes made (omega (arith, empty-length, e)))
 
-  empty-short : (output : List ℕ) → length output ≡ 43 → assembleNumber roster [] bag output ≡ 21
-  empty-short output e = number-is output 21 (output-short roster [] bag output empty-bytes made (omega (arith, empty-length, e)))
+  empty-short : (output : List ℕ) → length output ≡ 43 → assembleNumber roster [] itemBytes output ≡ 21
+  empty-short output e = number-is output 21 (output-short roster [] itemBytes output empty-bytes made (omega (arith, empty-length, e)))

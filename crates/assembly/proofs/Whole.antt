@@ -20,14 +20,14 @@ pub data Long (S : ℕ) : List Item → Type 0 where
 module _ (w S : ℕ) where
   -- ---- from the place on where the next item begins
 
-  pub items-skip : (k : ℕ) (bag : List ℕ) → itemsAfter w S k bag ≡ itemsAfter w S 0 (drop k bag)
+  pub items-skip : (k : ℕ) (itemBytes : List ℕ) → itemsAfter w S k itemBytes ≡ itemsAfter w S 0 (drop k itemBytes)
   unfolding itemsAfter
   items-skip zero [] = refl
   items-skip zero (b ∷ bs) = refl
   items-skip (suc k) [] = refl
   items-skip (suc k) (b ∷ bs) = items-skip k bs
 
-  pub whole-skip : (k : ℕ) (bag : List ℕ) → k ≤ length bag → wholeAfter w S k bag ≡ wholeAfter w S 0 (drop k bag)
+  pub whole-skip : (k : ℕ) (itemBytes : List ℕ) → k ≤ length itemBytes → wholeAfter w S k itemBytes ≡ wholeAfter w S 0 (drop k itemBytes)
   unfolding wholeAfter
   whole-skip zero [] h = refl
   whole-skip zero (b ∷ bs) h = refl
@@ -36,23 +36,23 @@ module _ (w S : ℕ) where
 
   -- ---- the next item
 
-  item-some : (bag : List ℕ) → itemSize w S bag ≡ suc (itemSize w S bag - 1)
+  item-some : (itemBytes : List ℕ) → itemSize w S itemBytes ≡ suc (itemSize w S itemBytes - 1)
   unfolding itemSize
-  item-some bag = omega arith
+  item-some itemBytes = omega arith
 
   -- what follows the first byte, and what follows the first item
   after-item : (b : ℕ) (bs : List ℕ) → drop (itemSize w S (b ∷ bs) - 1) bs ≡ drop (itemSize w S (b ∷ bs)) (b ∷ bs)
   after-item b bs = sym (ap (λ k. drop k (b ∷ bs)) (item-some (b ∷ bs)))
 
-  pub items-next : (bag : List ℕ) → 0 < length bag → itemsOf w S bag ≡ firstItem w S bag ∷ itemsOf w S (drop (itemSize w S bag) bag)
+  pub items-next : (itemBytes : List ℕ) → 0 < length itemBytes → itemsOf w S itemBytes ≡ firstItem w S itemBytes ∷ itemsOf w S (drop (itemSize w S itemBytes) itemBytes)
   unfolding itemsOf itemsAfter
   items-next [] h = absurd (omega arith)
   items-next (b ∷ bs) h =
       ap (λ is. firstItem w S (b ∷ bs) ∷ is)
       (items-skip (itemSize w S (b ∷ bs) - 1) bs ∙ ap (itemsAfter w S 0) (after-item b bs))
 
-  pub whole-next : (bag : List ℕ) → 0 < length bag → 0 < firstSize w S bag → itemSize w S bag ≤ length bag
-      → whole w S bag ≡ whole w S (drop (itemSize w S bag) bag)
+  pub whole-next : (itemBytes : List ℕ) → 0 < length itemBytes → 0 < firstSize w S itemBytes → itemSize w S itemBytes ≤ length itemBytes
+      → whole w S itemBytes ≡ whole w S (drop (itemSize w S itemBytes) itemBytes)
   unfolding whole wholeAfter
   whole-next [] h kind inside = absurd (omega arith)
   whole-next (b ∷ bs) h kind inside =
@@ -62,13 +62,13 @@ module _ (w S : ℕ) where
 
   -- ---- a bag that does not end inside an item
 
-  pub whole-room : (k : ℕ) (bag : List ℕ) → wholeAfter w S k bag ≡ true → k ≤ length bag
+  pub whole-room : (k : ℕ) (itemBytes : List ℕ) → wholeAfter w S k itemBytes ≡ true → k ≤ length itemBytes
   unfolding wholeAfter
-  whole-room zero bag e = omega arith
+  whole-room zero itemBytes e = omega arith
   whole-room (suc k) [] e = absurd (true≢false (sym e))
   whole-room (suc k) (b ∷ bs) e = omega (arith, whole-room k bs e)
 
-  pub items-long : (k : ℕ) (bag : List ℕ) → wholeAfter w S k bag ≡ true → Long S (itemsAfter w S k bag)
+  pub items-long : (k : ℕ) (itemBytes : List ℕ) → wholeAfter w S k itemBytes ≡ true → Long S (itemsAfter w S k itemBytes)
   unfolding wholeAfter itemsAfter firstItem itemSize
   items-long zero [] e = no-item
   items-long (suc k) [] e = no-item
@@ -81,7 +81,7 @@ module _ (w S : ℕ) where
       an-item (length-take-le S (drop end (b ∷ bs)) after) (items-long _ bs (both .1))
 
   -- its first item has a kind, and lies inside
-  pub whole-first : (bag : List ℕ) → 0 < length bag → whole w S bag ≡ true → (0 < firstSize w S bag) × (itemSize w S bag ≤ length bag)
+  pub whole-first : (itemBytes : List ℕ) → 0 < length itemBytes → whole w S itemBytes ≡ true → (0 < firstSize w S itemBytes) × (itemSize w S itemBytes ≤ length itemBytes)
   unfolding whole wholeAfter
   whole-first [] h e = absurd (omega arith)
   whole-first (b ∷ bs) h e =

@@ -41,9 +41,9 @@ abbrev pub recordsGiven : List ℕ → List ℕ → List Record
 recordsGiven roster log = logOf (formOf roster .termBytes) log
 
 abbrev pub itemsGiven : List ℕ → List ℕ → List Item
-itemsGiven roster bag = itemsOf (formOf roster .termBytes) (signatureSize roster) bag
+itemsGiven roster itemBytes = itemsOf (formOf roster .termBytes) (signatureSize roster) itemBytes
 
-module _ (roster log bag : List ℕ) where
+module _ (roster log itemBytes : List ℕ) where
   -- the log as it was given, with some leaders, and the commit
   unfoldable pub viewWith : List Lead → View
   viewWith ls =
@@ -51,14 +51,14 @@ module _ (roster log bag : List ℕ) where
         log = recordsGiven roster log;
         leaders = map (λ l. l .certificate) ls;
         stamps = map (λ l. l .stamp) ls;
-        commit = commitTo (formOf roster) roster (itemsGiven roster bag) (length (recordsGiven roster log))
-            (recordsGiven roster log);
+        commit = commitTo (formOf roster) roster (itemsGiven roster itemBytes)
+            (length (recordsGiven roster log)) (recordsGiven roster log);
       }
 
   unfoldable pub assembledView : Option View
   assembledView =
       Option·map viewWith
-      (leadsFor (formOf roster) roster (itemsGiven roster bag) (runs (recordsGiven roster log)))
+      (leadsFor (formOf roster) roster (itemsGiven roster itemBytes) (runs (recordsGiven roster log)))
 
   -- its bytes, or none where some term has no candidate
   unfoldable pub assembled : Option (List ℕ)
@@ -66,11 +66,11 @@ module _ (roster log bag : List ℕ) where
 
 -- ---- the answer
 
-module _ (roster log bag output : List ℕ) where
+module _ (roster log itemBytes output : List ℕ) where
   -- 20: some term has no candidate; 21: the output is too small
   unfoldable pub outputNumber : ℕ
   outputNumber =
-      Option·elim (assembled roster log bag) 20
+      Option·elim (assembled roster log itemBytes) 20
       (λ s. refusal (check 21 (leb (length s) (length output)) ∷ []))
 
   -- 2 to 4, 8, 11, 19, 20, 21: the first that applies, or 0
@@ -81,13 +81,13 @@ module _ (roster log bag output : List ℕ) where
       (refusal (
       check 8 (logCounted (formOf roster .termBytes) log) ∷
       check 11 (rising 1 (recordsGiven roster log)) ∷
-      check 19 (whole (formOf roster .termBytes) (signatureSize roster) bag) ∷ []
+      check 19 (whole (formOf roster .termBytes) (signatureSize roster) itemBytes) ∷ []
       ))
       outputNumber)
 
   -- what is written: nothing where it is refused
   unfoldable pub assembledBytes : List ℕ
-  assembledBytes = cond (eqb assembleNumber 0) (Option·getD (assembled roster log bag) []) []
+  assembledBytes = cond (eqb assembleNumber 0) (Option·getD (assembled roster log itemBytes) []) []
 
   unfoldable pub assembleLength : ℕ
   assembleLength = length assembledBytes

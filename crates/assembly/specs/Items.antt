@@ -28,18 +28,18 @@ statementSize w kind =
 module _ (w S : ℕ) where
   -- the bytes of the first item's statement, by its kind byte, the third; 0 where there is no such byte
   unfoldable pub firstSize : List ℕ → ℕ
-  firstSize bag = statementSize w (getD bag 2 0)
+  firstSize itemBytes = statementSize w (getD itemBytes 2 0)
 
   unfoldable pub itemSize : List ℕ → ℕ
-  itemSize bag = 2 + firstSize bag + S
+  itemSize itemBytes = 2 + firstSize itemBytes + S
 
   unfoldable pub firstItem : List ℕ → Item
-  firstItem bag =
-      let end = 2 + firstSize bag in
+  firstItem itemBytes =
+      let end = 2 + firstSize itemBytes in
       record {
-        replica = numberAt 2 bag 0;
-        statement = take (firstSize bag) (drop 2 bag);
-        signature = take S (drop end bag);
+        replica = numberAt 2 itemBytes 0;
+        statement = take (firstSize itemBytes) (drop 2 itemBytes);
+        signature = take S (drop end itemBytes);
       }
 
   -- the items after so many bytes
@@ -49,7 +49,7 @@ module _ (w S : ℕ) where
   itemsAfter (suc skip) (b ∷ bs) = itemsAfter skip bs
 
   unfoldable pub itemsOf : List ℕ → List Item
-  itemsOf bag = itemsAfter 0 bag
+  itemsOf itemBytes = itemsAfter 0 itemBytes
 
   -- 19: after so many bytes every kind byte is 1, 2 or 3, and the bag does not end inside an item
   unfoldable pub wholeAfter : ℕ → List ℕ → Bool
@@ -59,7 +59,7 @@ module _ (w S : ℕ) where
   wholeAfter (suc skip) (b ∷ bs) = wholeAfter skip bs
 
   unfoldable pub whole : List ℕ → Bool
-  whole bag = wholeAfter 0 bag
+  whole itemBytes = wholeAfter 0 itemBytes
 
 -- ---- the copy that counts
 

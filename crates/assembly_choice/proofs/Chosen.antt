@@ -19,16 +19,16 @@ use Rattle.assembly_choice.specs.Chosen.{LeadersChosen}
 use Rattle.assembly_choice.specs.Settled.{allTaken, Tried}
 use Rattle.assembly_choice.proofs.Leads.{leads-all}
 
-module _ (roster bag : List ℕ) (terms : Terms) where
+module _ (roster itemBytes : List ℕ) (terms : Terms) where
   pub leaders-chosen : (votes stamps taken : List ℕ) (found : Bool) → found ≡ allTaken (terms .count) taken
       → ((rs : List Run) → length rs ≡ terms .count → VotesIn (withTerms (terms .width) (cluster roster)) 0 rs votes
-      → StampsIn (withTerms (terms .width) (cluster roster)) rs stamps → Tried roster bag terms rs 0 taken)
-      → LeadersChosen roster bag votes stamps terms found taken
+      → StampsIn (withTerms (terms .width) (cluster roster)) rs stamps → Tried roster itemBytes terms rs 0 taken)
+      → LeadersChosen roster itemBytes votes stamps terms found taken
   unfolding LeadersChosen Tried
   leaders-chosen votes stamps taken found e tried =
       λ rs all wanted-votes wanted-stamps.
       let form = withTerms (terms .width) (cluster roster) in
-      let items = itemsOf (terms .width) (terms .size) bag in
+      let items = itemsOf (terms .width) (terms .size) itemBytes in
       let each = tried rs all wanted-votes wanted-stamps in
-      leads-all (terms .size) bag form roster items rs taken (λ t h. rw sub-zero at (each t (omega arith)))
-      ∙ ap (λ b. cond b (some (leadsIn (terms .size) bag form (replicas roster) taken rs)) none) (ap (λ n. allTaken n taken) all ∙ sym e)
+      leads-all (terms .size) itemBytes form roster items rs taken (λ t h. rw sub-zero at (each t (omega arith)))
+      ∙ ap (λ b. cond b (some (leadsIn (terms .size) itemBytes form (replicas roster) taken rs)) none) (ap (λ n. allTaken n taken) all ∙ sym e)

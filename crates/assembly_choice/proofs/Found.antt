@@ -35,14 +35,14 @@ copies-at roster statement is (suc n) k (suc j) h =
     let next : suc k + j ≡ k + suc j = omega arith in
     copies-at roster statement is n (suc k) j (omega arith) ∙ rw next
 
-copy-at : (S : ℕ) (bag roster statement places : List ℕ) (is : List Item) (k : ℕ) → k < replicas roster
-    → copiesAt S bag (replicas roster) places ≡ copies roster statement is
-    → copyAt S bag (getD places k 0) ≡ copyOf roster (suc k) statement is
+copy-at : (S : ℕ) (itemBytes roster statement places : List ℕ) (is : List Item) (k : ℕ) → k < replicas roster
+    → copiesAt S itemBytes (replicas roster) places ≡ copies roster statement is
+    → copyAt S itemBytes (getD places k 0) ≡ copyOf roster (suc k) statement is
 unfolding copiesAt copies copyAt
-copy-at S bag roster statement places is k h e =
+copy-at S itemBytes roster statement places is k h e =
     let next : 1 + k ≡ suc k = omega arith in
-    ap (copyAt S bag) (sym (getD-take (replicas roster) places k 0 h))
-    ∙ sym (List·getD-map (copyAt S bag) (take (replicas roster) places) k 0)
+    ap (copyAt S itemBytes) (sym (getD-take (replicas roster) places k 0 h))
+    ∙ sym (List·getD-map (copyAt S itemBytes) (take (replicas roster) places) k 0)
     ∙ ap (λ cs. getD cs k none) e
     ∙ copies-at roster statement is (replicas roster) 1 k h
     ∙ rw next
@@ -61,28 +61,28 @@ abbrev pub stampsSought : Terms → Sought
 stampsSought terms =
     record { width = terms .width; size = terms .size; head = stampHead; tail = stampTail (terms .width); count = terms .count }
 
-module _ (roster bag : List ℕ) (terms : Terms) (fine : rosterNumber roster ≡ 0) (rs : List Run) (all : length rs ≡ terms .count) where
+module _ (roster itemBytes : List ℕ) (terms : Terms) (fine : rosterNumber roster ≡ 0) (rs : List Run) (all : length rs ≡ terms .count) where
   named : length (cluster roster) ≡ nameSize
   named = name-length roster fine
 
-  pub stamps-placed : (stamps stamped : List ℕ) → CopiesFound roster bag stamps (stampsSought terms) stamped
-      → StampsIn (withTerms (terms .width) (cluster roster)) rs stamps → StampsPlaced roster bag terms rs stamped
+  pub stamps-placed : (stamps stamped : List ℕ) → CopiesFound roster itemBytes stamps (stampsSought terms) stamped
+      → StampsIn (withTerms (terms .width) (cluster roster)) rs stamps → StampsPlaced roster itemBytes terms rs stamped
   unfolding CopiesFound StampsPlaced stampBy
   stamps-placed stamps stamped found wanted =
       λ t k h j.
       let form = withTerms (terms .width) (cluster roster) in
-      let items = itemsOf (terms .width) (terms .size) bag in
+      let items = itemsOf (terms .width) (terms .size) itemBytes in
       let statement = stamp-statement form named rs stamps t (omega arith) (stampsSought terms) refl refl wanted in
-      ap (copyAt (terms .size) bag) (sym (getD-drop (replicasMost * t) stamped k 0))
-      ∙ copy-at (terms .size) bag roster _ (drop (replicasMost * t) stamped) items k j (found t h ∙ ap (λ s. copies roster s items) statement)
+      ap (copyAt (terms .size) itemBytes) (sym (getD-drop (replicasMost * t) stamped k 0))
+      ∙ copy-at (terms .size) itemBytes roster _ (drop (replicasMost * t) stamped) items k j (found t h ∙ ap (λ s. copies roster s items) statement)
 
-  pub votes-placed : (candidate : ℕ) (votes voted : List ℕ) → CopiesFound roster bag votes (votesSought terms) voted
-      → VotesIn (withTerms (terms .width) (cluster roster)) candidate rs votes → VotesPlaced roster bag terms rs candidate voted
+  pub votes-placed : (candidate : ℕ) (votes voted : List ℕ) → CopiesFound roster itemBytes votes (votesSought terms) voted
+      → VotesIn (withTerms (terms .width) (cluster roster)) candidate rs votes → VotesPlaced roster itemBytes terms rs candidate voted
   unfolding CopiesFound VotesPlaced votesFor
   votes-placed candidate votes voted found wanted =
       λ t h.
       let form = withTerms (terms .width) (cluster roster) in
-      let items = itemsOf (terms .width) (terms .size) bag in
+      let items = itemsOf (terms .width) (terms .size) itemBytes in
       let statement = vote-statement form named rs votes t (omega arith) (votesSought terms) candidate refl refl wanted in
       found t h ∙ ap (λ s. copies roster s items) statement
 

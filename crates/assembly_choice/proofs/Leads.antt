@@ -32,14 +32,14 @@ unfolding andThen
 and-then l true ls = refl
 and-then l false ls = refl
 
-module _ (S : ℕ) (bag : List ℕ) (form : Form) (roster : List ℕ) (items : List Item) where
+module _ (S : ℕ) (itemBytes : List ℕ) (form : Form) (roster : List ℕ) (items : List Item) where
   -- the first row, and then the others
   first-row : (r : Run) (rs : List Run) (taken : List ℕ) → getD (take takenSize taken) 0 0 ≡ getD taken 0 0
-      → leadOfRow S bag form (replicas roster) (rowAt taken 0) r ≡ leadFrom form roster items (replicas roster) 1 r
+      → leadOfRow S itemBytes form (replicas roster) (rowAt taken 0) r ≡ leadFrom form roster items (replicas roster) 1 r
       → leadsFor form roster items rs
-      ≡ cond (allTaken (length rs) (drop takenSize taken)) (some (leadsIn S bag form (replicas roster) (drop takenSize taken) rs)) none
+      ≡ cond (allTaken (length rs) (drop takenSize taken)) (some (leadsIn S itemBytes form (replicas roster) (drop takenSize taken) rs)) none
       → leadsFor form roster items (r ∷ rs)
-      ≡ cond (allTaken (length (r ∷ rs)) taken) (some (leadsIn S bag form (replicas roster) taken (r ∷ rs))) none
+      ≡ cond (allTaken (length (r ∷ rs)) taken) (some (leadsIn S itemBytes form (replicas roster) taken (r ∷ rs))) none
   unfolding leadsFor leadsIn allTaken leadOfRow andThen
   first-row r rs taken cell first rest =
       let later = allTaken (length rs) (drop takenSize taken) in
@@ -51,11 +51,11 @@ module _ (S : ℕ) (bag : List ℕ) (form : Form) (roster : List ℕ) (items : L
 
   pub leads-all : (rs : List Run) (taken : List ℕ)
       → ((t : ℕ) → t < length rs
-      → leadOfRow S bag form (replicas roster) (rowAt taken t) (termAt rs t) ≡ leadFrom form roster items (replicas roster) 1 (termAt rs t))
-      → leadsFor form roster items rs ≡ cond (allTaken (length rs) taken) (some (leadsIn S bag form (replicas roster) taken rs)) none
+      → leadOfRow S itemBytes form (replicas roster) (rowAt taken t) (termAt rs t) ≡ leadFrom form roster items (replicas roster) 1 (termAt rs t))
+      → leadsFor form roster items rs ≡ cond (allTaken (length rs) taken) (some (leadsIn S itemBytes form (replicas roster) taken rs)) none
   unfolding leadsFor leadsIn allTaken
   leads-all [] taken each = refl
   leads-all (r ∷ rs) taken each =
       first-row r rs taken (getD-take takenSize taken 0 0 (omega arith)) (each 0 (omega arith))
       (leads-all rs (drop takenSize taken)
-      (λ t h. ap (λ row. leadOfRow S bag form (replicas roster) row (termAt rs t)) (row-later taken t) ∙ each (suc t) (omega arith)))
+      (λ t h. ap (λ row. leadOfRow S itemBytes form (replicas roster) row (termAt rs t)) (row-later taken t) ∙ each (suc t) (omega arith)))

@@ -19,10 +19,10 @@ Kept t before after = (u : ℕ) → t ≤ u → rowAt after u ≡ rowAt before u
 
 pub settled-none : (n c : ℕ) (voted stamped before : List ℕ) → Settled n c voted stamped 0 before before × Kept 0 before before
 unfolding Settled Kept
-settled-none n c voted stamped before = (λ S bag t h. absurd (omega arith), λ u h. refl)
+settled-none n c voted stamped before = (λ S itemBytes t h. absurd (omega arith), λ u h. refl)
 
 module _ (n c : ℕ) (voted stamped before after : List ℕ) (t mask : ℕ)
-    (signed : (S : ℕ) (bag : List ℕ) → mask ≡ signersOf (copiesAt S bag n (drop (replicasMost * t) voted)))
+    (signed : (S : ℕ) (itemBytes : List ℕ) → mask ≡ signersOf (copiesAt S itemBytes n (drop (replicasMost * t) voted)))
     (settled : Settled n c voted stamped t before after) (kept : Kept t before after) where
   abbrev stamp : ℕ
   stamp = getD stamped (replicasMost * t + c - 1) 0
@@ -35,14 +35,14 @@ module _ (n c : ℕ) (voted stamped before after : List ℕ) (t mask : ℕ)
   unfolding Settled settledRow Kept
   settled-put long room is-electable =
       let size : length row ≡ takenSize = rw (length-take-le replicasMost (drop (replicasMost * t) voted) long) in (
-        λ S bag.
+        λ S itemBytes.
             below-more _ t
-            (λ u h. row-kept after row t u size (λ e. omega arith) ∙ settled S bag u h)
-            (row-put after row t size room ∙ rw (← signed S bag, is-electable) refl),
+            (λ u h. row-kept after row t u size (λ e. omega arith) ∙ settled S itemBytes u h)
+            (row-put after row t size room ∙ rw (← signed S itemBytes, is-electable) refl),
         λ u h. row-kept after row t u size (λ e. omega arith) ∙ kept u (omega arith),
       )
 
   pub settled-left : electable n mask c stamp ≡ false → Settled n c voted stamped (t + 1) before after × Kept (t + 1) before after
   unfolding Settled settledRow Kept
   settled-left will-not =
-      (λ S bag. below-more _ t (settled S bag) (rw (← signed S bag, will-not) (kept t (omega arith))), λ u h. kept u (omega arith))
+      (λ S itemBytes. below-more _ t (settled S itemBytes) (rw (← signed S itemBytes, will-not) (kept t (omega arith))), λ u h. kept u (omega arith))

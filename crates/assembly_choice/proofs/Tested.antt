@@ -25,19 +25,19 @@ use Rattle.assembly.specs.Choice.{votesFor, stampBy, leadOf, leadBy}
 use Rattle.assembly_copies.specs.Rows.{replicasMost, copyAt, copiesAt, leadIn}
 use Rattle.assembly_choice.specs.Settled.{electable, settledRow, leadOfRow}
 
-module _ (S : ℕ) (bag : List ℕ) (form : Form) (n c : ℕ) (few : n ≤ replicasMost) (some-one : 0 < c) (votes : List ℕ) (r : Run) where
+module _ (S : ℕ) (itemBytes : List ℕ) (form : Form) (n c : ℕ) (few : n ≤ replicasMost) (some-one : 0 < c) (votes : List ℕ) (r : Run) where
   -- a row that was put down says what the votes and the stamp make of the candidate
   row-says : (stamp : ℕ) → (stamp ≡ 0 → ⊥)
-      → leadOfRow S bag form n (c ∷ stamp ∷ take replicasMost votes) r ≡ leadOf form c r (copiesAt S bag n votes) (copyAt S bag stamp)
+      → leadOfRow S itemBytes form n (c ∷ stamp ∷ take replicasMost votes) r ≡ leadOf form c r (copiesAt S itemBytes n votes) (copyAt S itemBytes stamp)
   unfolding leadOfRow leadIn leadOf copiesAt copyAt signatureOf
   row-says stamp there = rw (ne-eqb c 0 (λ e. omega arith), ne-eqb stamp 0 there, take-take n replicasMost votes few)
 
-  no-stamp : (stamp : ℕ) (vs : List (Option (List ℕ))) → stamp ≡ 0 → leadOf form c r vs (copyAt S bag stamp) ≡ none
+  no-stamp : (stamp : ℕ) (vs : List (Option (List ℕ))) → stamp ≡ 0 → leadOf form c r vs (copyAt S itemBytes stamp) ≡ none
   unfolding leadOf copyAt
   no-stamp stamp vs e = rw (eq-eqb stamp 0 e)
 
   stamped-first : (stamp : ℕ) (vs : List (Option (List ℕ))) (o : Option Lead) → (stamp ≡ 0 → ⊥)
-      → orElse (leadOf form c r vs (copyAt S bag stamp)) o ≡ leadOf form c r vs (copyAt S bag stamp)
+      → orElse (leadOf form c r vs (copyAt S itemBytes stamp)) o ≡ leadOf form c r vs (copyAt S itemBytes stamp)
   unfolding leadOf copyAt orElse
   stamped-first stamp vs o there = rw (ne-eqb stamp 0 there)
 
@@ -51,43 +51,43 @@ all-three false b d = refl
 
 -- ---- a row after a candidate was tried: he comes before those above him
 
-module _ (S : ℕ) (bag : List ℕ) (form : Form) (roster : List ℕ) (items : List Item) (few : replicas roster ≤ replicasMost)
+module _ (S : ℕ) (itemBytes : List ℕ) (form : Form) (roster : List ℕ) (items : List Item) (few : replicas roster ≤ replicasMost)
     (c : ℕ) (some-one : 0 < c) (r : Run) (votes : List ℕ) (stamp : ℕ) (row : List ℕ)
-    (voted : copiesAt S bag (replicas roster) votes ≡ votesFor form roster items c r)
-    (stamped : copyAt S bag stamp ≡ stampBy form roster items c r) where
+    (voted : copiesAt S itemBytes (replicas roster) votes ≡ votesFor form roster items c r)
+    (stamped : copyAt S itemBytes stamp ≡ stampBy form roster items c r) where
   abbrev mask : ℕ
-  mask = signersOf (copiesAt S bag (replicas roster) votes)
+  mask = signersOf (copiesAt S itemBytes (replicas roster) votes)
 
   abbrev asked : Bool
   asked = all (leb (quorum (replicas roster)) (ones mask) ∷ signer mask c ∷ [])
 
   abbrev said : Option Lead
-  said = leadOf form c r (copiesAt S bag (replicas roster) votes) (copyAt S bag stamp)
+  said = leadOf form c r (copiesAt S itemBytes (replicas roster) votes) (copyAt S itemBytes stamp)
 
   lead-asked : leadBy form roster items c r ≡ cond asked said none
   unfolding leadBy
   lead-asked = rw (← voted, ← stamped) refl
 
-  row-asked : settledRow S bag (replicas roster) c votes stamp row ≡ cond (cond asked (not (eqb stamp 0)) false) (c ∷ stamp ∷ take replicasMost votes) row
+  row-asked : settledRow S itemBytes (replicas roster) c votes stamp row ≡ cond (cond asked (not (eqb stamp 0)) false) (c ∷ stamp ∷ take replicasMost votes) row
   unfolding settledRow electable
   row-asked = rw all-three refl
 
-  pub lead-settled : leadOfRow S bag form (replicas roster) (settledRow S bag (replicas roster) c votes stamp row) r
-      ≡ orElse (leadBy form roster items c r) (leadOfRow S bag form (replicas roster) row r)
+  pub lead-settled : leadOfRow S itemBytes form (replicas roster) (settledRow S itemBytes (replicas roster) c votes stamp row) r
+      ≡ orElse (leadBy form roster items c r) (leadOfRow S itemBytes form (replicas roster) row r)
   unfolding orElse
   lead-settled =
-      let before = leadOfRow S bag form (replicas roster) row r in
+      let before = leadOfRow S itemBytes form (replicas roster) row r in
       rw (lead-asked, row-asked)
       (⊎-elim
       (λ (h : asked ≡ true).
       ⊎-elim
       (λ (z : eqb stamp 0 ≡ true).
-      rw (h, z) (sym (ap (λ o. orElse o before) (no-stamp S bag form (replicas roster) c few some-one votes r stamp _ (eqb-true stamp 0 z)))))
+      rw (h, z) (sym (ap (λ o. orElse o before) (no-stamp S itemBytes form (replicas roster) c few some-one votes r stamp _ (eqb-true stamp 0 z)))))
       (λ (z : eqb stamp 0 ≡ false).
       let there = eqb-false stamp 0 z in
       rw (h, z)
-      (row-says S bag form (replicas roster) c few some-one votes r stamp there
-      ∙ sym (stamped-first S bag form (replicas roster) c few some-one votes r stamp _ before there)))
+      (row-says S itemBytes form (replicas roster) c few some-one votes r stamp there
+      ∙ sym (stamped-first S itemBytes form (replicas roster) c few some-one votes r stamp _ before there)))
       (look (eqb stamp 0)))
       (λ (h : asked ≡ false). rw h refl)
       (look asked))

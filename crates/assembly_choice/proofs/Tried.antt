@@ -28,9 +28,9 @@ use Rattle.assembly_choice.proofs.Tested.{lead-settled}
 
 -- ---- the rows
 
-module _ (roster bag : List ℕ) (terms : Terms) (rs : List Run) where
+module _ (roster itemBytes : List ℕ) (terms : Terms) (rs : List Run) where
   -- no candidate is above n
-  pub tried-none : (taken : List ℕ) → ((j : ℕ) → j < takenSize * terms .count → getD taken j 0 ≡ 0) → Tried roster bag terms rs (replicas roster) taken
+  pub tried-none : (taken : List ℕ) → ((j : ℕ) → j < takenSize * terms .count → getD taken j 0 ≡ 0) → Tried roster itemBytes terms rs (replicas roster) taken
   unfolding Tried leadOfRow leadFrom
   tried-none taken clear =
       λ t h.
@@ -38,32 +38,32 @@ module _ (roster bag : List ℕ) (terms : Terms) (rs : List Run) where
       rw (none-left, eq-eqb (getD (rowAt taken t) 0 0) 0 (row-cell taken t 0 (omega arith) ∙ clear (takenSize * t + 0) (omega arith)))
 
   module _ (c : ℕ) (some-one : 0 < c) (inside : c ≤ replicas roster) (few : replicas roster ≤ replicasMost) (voted stamped before after : List ℕ)
-      (votes : VotesPlaced roster bag terms rs c voted)
-      (stamps : StampsPlaced roster bag terms rs stamped)
+      (votes : VotesPlaced roster itemBytes terms rs c voted)
+      (stamps : StampsPlaced roster itemBytes terms rs stamped)
       (settled : Settled (replicas roster) c voted stamped (terms .count) before after) where
-    pub tried-next : Tried roster bag terms rs c before → Tried roster bag terms rs (c - 1) after
+    pub tried-next : Tried roster itemBytes terms rs c before → Tried roster itemBytes terms rs (c - 1) after
     unfolding Tried Settled StampsPlaced VotesPlaced leadFrom
     tried-next tried =
         λ t h.
         let form = withTerms (terms .width) (cluster roster) in
-        let items = itemsOf (terms .width) (terms .size) bag in
+        let items = itemsOf (terms .width) (terms .size) itemBytes in
         let r = termAt rs t in
         let there : replicasMost * t + (c - 1) ≡ replicasMost * t + c - 1 = omega arith in
         let same : suc (c - 1) ≡ c = omega arith in
         let more : replicas roster - (c - 1) ≡ suc (replicas roster - c) = omega arith in
         let stamp = rw (there, same) at (stamps t (c - 1) h (omega arith)) in
-        rw (settled (terms .size) bag t h, more, same)
-        (lead-settled (terms .size) bag form roster items few c some-one r (drop (replicasMost * t) voted) (getD stamped (replicasMost * t + c - 1) 0) (rowAt before t) (votes t h) stamp
+        rw (settled (terms .size) itemBytes t h, more, same)
+        (lead-settled (terms .size) itemBytes form roster items few c some-one r (drop (replicasMost * t) voted) (getD stamped (replicasMost * t + c - 1) 0) (rowAt before t) (votes t h) stamp
         ∙ ap (orElse (leadBy form roster items c r)) (tried t h))
 
 -- ---- rows inside the bag
 
-module _ (S : ℕ) (bag : List ℕ) (n c : ℕ) where
+module _ (S : ℕ) (itemBytes : List ℕ) (n c : ℕ) where
   cell-settled : (votes row : List ℕ) (stamp k most : ℕ) → getD row k 0 ≤ most → getD (c ∷ stamp ∷ take replicasMost votes) k 0 ≤ most
-      → getD (settledRow S bag n c votes stamp row) k 0 ≤ most
+      → getD (settledRow S itemBytes n c votes stamp row) k 0 ≤ most
   unfolding settledRow
   cell-settled votes row stamp k most old new =
-      let test = electable n (signersOf (copiesAt S bag n votes)) c stamp in
+      let test = electable n (signersOf (copiesAt S itemBytes n votes)) c stamp in
       ⊎-elim (λ (h : test ≡ true). rw h new) (λ (h : test ≡ false). rw h old) (look test)
 
   module _ (count : ℕ) (inside : 0 < c) (high : c ≤ n) (few : n ≤ replicasMost) (voted stamped before after : List ℕ)
@@ -73,12 +73,12 @@ module _ (S : ℕ) (bag : List ℕ) (n c : ℕ) where
         → getD after (takenSize * t + k) 0 ≤ most
     unfolding Settled
     cell-after t k most h j old new =
-        rw (← row-cell after t k j, settled S bag t h)
+        rw (← row-cell after t k j, settled S itemBytes t h)
         (cell-settled (drop (replicasMost * t) voted) (rowAt before t) (getD stamped (replicasMost * t + c - 1) 0) k most (rw (row-cell before t k j) old) new)
 
-    new-place : Placed S bag (replicasMost * count) voted → Placed S bag (replicasMost * count) stamped
+    new-place : Placed S itemBytes (replicasMost * count) voted → Placed S itemBytes (replicasMost * count) stamped
         → (t k : ℕ) → t < count → 0 < k → k < takenSize
-        → getD (c ∷ getD stamped (replicasMost * t + c - 1) 0 ∷ take replicasMost (drop (replicasMost * t) voted)) k 0 ≤ length bag - S
+        → getD (c ∷ getD stamped (replicasMost * t + c - 1) 0 ∷ take replicasMost (drop (replicasMost * t) voted)) k 0 ≤ length itemBytes - S
     unfolding Placed
     new-place votes stamps t zero h some-place j = absurd (omega arith)
     new-place votes stamps t (suc zero) h some-place j = stamps (replicasMost * t + c - 1) (omega arith)
@@ -86,8 +86,8 @@ module _ (S : ℕ) (bag : List ℕ) (n c : ℕ) where
         rw (getD-take replicasMost (drop (replicasMost * t) voted) k 0 (omega arith), getD-drop (replicasMost * t) voted k 0)
         (votes (replicasMost * t + k) (omega arith))
 
-    pub held-next : Placed S bag (replicasMost * count) voted → Placed S bag (replicasMost * count) stamped
-        → RowsHeld S bag n count before → RowsHeld S bag n count after
+    pub held-next : Placed S itemBytes (replicasMost * count) voted → Placed S itemBytes (replicasMost * count) stamped
+        → RowsHeld S itemBytes n count before → RowsHeld S itemBytes n count after
     held-next votes stamps held =
         record {
           candidates =
@@ -96,12 +96,12 @@ module _ (S : ℕ) (bag : List ℕ) (n c : ℕ) where
               rw add-zero at first;
           places =
               λ t k h some-place j.
-              cell-after t k (length bag - S) h j (held .places t k h some-place j) (new-place votes stamps t k h some-place j);
+              cell-after t k (length itemBytes - S) h j (held .places t k h some-place j) (new-place votes stamps t k h some-place j);
         }
 
 -- an empty table
-pub held-none : (S : ℕ) (bag : List ℕ) (n count : ℕ) (taken : List ℕ) → ((j : ℕ) → j < takenSize * count → getD taken j 0 ≡ 0) → RowsHeld S bag n count taken
-held-none S bag n count taken clear =
+pub held-none : (S : ℕ) (itemBytes : List ℕ) (n count : ℕ) (taken : List ℕ) → ((j : ℕ) → j < takenSize * count → getD taken j 0 ≡ 0) → RowsHeld S itemBytes n count taken
+held-none S itemBytes n count taken clear =
     record {
       candidates = λ t h. rw (clear (takenSize * t) (omega arith)) (omega arith);
       places = λ t k h some-place j. rw (clear (takenSize * t + k) (omega arith)) (omega arith);

@@ -33,44 +33,44 @@ electable n mask candidate stamp =
 
 -- a row after a candidate was tried, from the places of his votes and of his stamp
 unfoldable pub settledRow : ℕ → List ℕ → ℕ → ℕ → List ℕ → ℕ → List ℕ → List ℕ
-settledRow S bag n candidate votes stamp row =
-    cond (electable n (signersOf (copiesAt S bag n votes)) candidate stamp)
+settledRow S itemBytes n candidate votes stamp row =
+    cond (electable n (signersOf (copiesAt S itemBytes n votes)) candidate stamp)
     (candidate ∷ stamp ∷ take replicasMost votes) row
 
 -- so many rows of a table after a candidate was tried
 unfoldable pub Settled : ℕ → ℕ → List ℕ → List ℕ → ℕ → List ℕ → List ℕ → Type 0
 Settled n candidate voted stamped count before after =
-    (S : ℕ) (bag : List ℕ) (t : ℕ) → t < count
+    (S : ℕ) (itemBytes : List ℕ) (t : ℕ) → t < count
     → rowAt after t
-    ≡ settledRow S bag n candidate (drop (replicasMost * t) voted)
+    ≡ settledRow S itemBytes n candidate (drop (replicasMost * t) voted)
     (getD stamped (replicasMost * t + candidate - 1) 0) (rowAt before t)
 
 -- ---- the candidates tried so far
 
 -- what a row says of a term; nothing with candidate 0
 unfoldable pub leadOfRow : ℕ → List ℕ → Form → ℕ → List ℕ → Run → Option Lead
-leadOfRow S bag form n row r = cond (eqb (getD row 0 0) 0) none (some (leadIn S bag form n row r))
+leadOfRow S itemBytes form n row r = cond (eqb (getD row 0 0) 0) none (some (leadIn S itemBytes form n row r))
 
 -- term t of some
 abbrev pub termAt : List Run → ℕ → Run
 termAt rs t = getD rs t (run [] [])
 
-module _ (roster bag : List ℕ) (terms : Terms) (rs : List Run) where
+module _ (roster itemBytes : List ℕ) (terms : Terms) (rs : List Run) where
   -- the places of the stamps of each replica on each term
   unfoldable pub StampsPlaced : List ℕ → Type 0
   StampsPlaced stamped =
       let form = withTerms (terms .width) (cluster roster) in
       (t k : ℕ) → t < terms .count → k < replicas roster
-      → copyAt (terms .size) bag (getD stamped (replicasMost * t + k) 0)
-      ≡ stampBy form roster (itemsOf (terms .width) (terms .size) bag) (suc k) (termAt rs t)
+      → copyAt (terms .size) itemBytes (getD stamped (replicasMost * t + k) 0)
+      ≡ stampBy form roster (itemsOf (terms .width) (terms .size) itemBytes) (suc k) (termAt rs t)
 
   -- and of the votes for a candidate in each term
   unfoldable pub VotesPlaced : ℕ → List ℕ → Type 0
   VotesPlaced candidate voted =
       let form = withTerms (terms .width) (cluster roster) in
       (t : ℕ) → t < terms .count
-      → copiesAt (terms .size) bag (replicas roster) (drop (replicasMost * t) voted)
-      ≡ votesFor form roster (itemsOf (terms .width) (terms .size) bag) candidate (termAt rs t)
+      → copiesAt (terms .size) itemBytes (replicas roster) (drop (replicasMost * t) voted)
+      ≡ votesFor form roster (itemsOf (terms .width) (terms .size) itemBytes) candidate (termAt rs t)
 
   -- the rows are of the lowest candidates among those above c
   unfoldable pub Tried : ℕ → List ℕ → Type 0
@@ -78,5 +78,5 @@ module _ (roster bag : List ℕ) (terms : Terms) (rs : List Run) where
       let form = withTerms (terms .width) (cluster roster) in
       let n = replicas roster in
       (t : ℕ) → t < terms .count
-      → leadOfRow (terms .size) bag form n (rowAt taken t) (termAt rs t)
-      ≡ leadFrom form roster (itemsOf (terms .width) (terms .size) bag) (n - c) (suc c) (termAt rs t)
+      → leadOfRow (terms .size) itemBytes form n (rowAt taken t) (termAt rs t)
+      ≡ leadFrom form roster (itemsOf (terms .width) (terms .size) itemBytes) (n - c) (suc c) (termAt rs t)

@@ -87,13 +87,13 @@ fn settle(
 const CELLS: usize = REPLICAS_MOST * LEADER_MOST;
 
 // Finds the stamps of each replica on each term.
-fn find_stamps(roster: &[u8], bag: &[u8], stamps: &[u8], terms: Terms, stamped: &mut [usize])
-    requires { ⌜ Choosable (now roster) (now bag) terms × (stampsRoom (terms .width) ≤ length (now stamps))
+fn find_stamps(roster: &[u8], items: &[u8], stamps: &[u8], terms: Terms, stamped: &mut [usize])
+    requires { ⌜ Choosable (now roster) (now items) terms × (stampsRoom (terms .width) ≤ length (now stamps))
         × (replicasMost * terms .count ≤ length (now stamped)) ⌝ }
     ensures stamps { λ _. ⌜ ((rs : List Run) → length rs ≡ terms .count
         → StampsIn (withTerms (terms .width) (cluster (now (roster .entry)))) rs (now (stamps .entry))
-        → StampsPlaced (now (roster .entry)) (now (bag .entry)) terms rs (now (stamped .exit))) ⌝ }
-    ensures placed { λ _. ⌜ Placed (terms .size) (now (bag .entry)) (replicasMost * terms .count)
+        → StampsPlaced (now (roster .entry)) (now (items .entry)) terms rs (now (stamped .exit))) ⌝ }
+    ensures placed { λ _. ⌜ Placed (terms .size) (now (items .entry)) (replicasMost * terms .count)
         (now (stamped .exit)) ⌝ }
     ensures room { λ _. ⌜ length (now (stamped .exit)) ≡ length (now (stamped .entry)) ⌝ }
 {
@@ -105,25 +105,25 @@ fn find_stamps(roster: &[u8], bag: &[u8], stamps: &[u8], terms: Terms, stamped: 
         tail: width + log_chain::INDEX_SIZE + log_chain::POINTER_SIZE,
         count: terms.count,
     };
-    assembly_copies::find_copies(roster, bag, stamps, sought, stamped);
+    assembly_copies::find_copies(roster, items, stamps, sought, stamped);
 }
 
 // Finds the votes for a candidate in each term; the votes' table is left for him.
 fn find_votes(
     roster: &[u8],
-    bag: &[u8],
+    items: &[u8],
     votes: &mut [u8],
     terms: Terms,
     candidate: usize,
     voted: &mut [usize],
 )
-    requires { ⌜ Choosable (now roster) (now bag) terms × (votesRoom (terms .width) ≤ length (now votes))
+    requires { ⌜ Choosable (now roster) (now items) terms × (votesRoom (terms .width) ≤ length (now votes))
         × (candidate ≤ replicasMost) × (replicasMost * terms .count ≤ length (now voted)) ⌝ }
     ensures votes { λ _. ⌜ ((rs : List Run) (last : ℕ) → length rs ≡ terms .count
         → VotesIn (withTerms (terms .width) (cluster (now (roster .entry)))) last rs (now (votes .entry))
         → VotesIn (withTerms (terms .width) (cluster (now (roster .entry)))) candidate rs (now (votes .exit))
-        × VotesPlaced (now (roster .entry)) (now (bag .entry)) terms rs candidate (now (voted .exit))) ⌝ }
-    ensures placed { λ _. ⌜ Placed (terms .size) (now (bag .entry)) (replicasMost * terms .count)
+        × VotesPlaced (now (roster .entry)) (now (items .entry)) terms rs candidate (now (voted .exit))) ⌝ }
+    ensures placed { λ _. ⌜ Placed (terms .size) (now (items .entry)) (replicasMost * terms .count)
         (now (voted .exit)) ⌝ }
     ensures rooms { λ _. ⌜ (length (now (votes .exit)) ≡ length (now (votes .entry)))
         × (length (now (voted .exit)) ≡ length (now (voted .entry))) ⌝ }
@@ -137,40 +137,40 @@ fn find_votes(
         tail: width + width + log_chain::INDEX_SIZE + log_chain::POINTER_SIZE,
         count: terms.count,
     };
-    assembly_copies::find_copies(roster, bag, votes, sought, voted);
+    assembly_copies::find_copies(roster, items, votes, sought, voted);
 }
 
 // Tries a candidate: finds his votes, and puts him down for each term in which he will do.
 fn try_candidate(
     roster: &[u8],
-    bag: &[u8],
+    items: &[u8],
     votes: &mut [u8],
     stamped: &[usize],
     terms: Terms,
     candidate: usize,
     taken: &mut [usize],
 )
-    requires { ⌜ Choosable (now roster) (now bag) terms × (votesRoom (terms .width) ≤ length (now votes))
+    requires { ⌜ Choosable (now roster) (now items) terms × (votesRoom (terms .width) ≤ length (now votes))
         × (replicasMost * terms .count ≤ length (now stamped)) × (0 < candidate)
         × (candidate ≤ replicas (now roster)) × (takenSize * terms .count ≤ length (now taken))
-        × Placed (terms .size) (now bag) (replicasMost * terms .count) (now stamped)
-        × RowsHeld (terms .size) (now bag) (replicas (now roster)) (terms .count) (now taken) ⌝ }
+        × Placed (terms .size) (now items) (replicasMost * terms .count) (now stamped)
+        × RowsHeld (terms .size) (now items) (replicas (now roster)) (terms .count) (now taken) ⌝ }
     ensures votes { λ _. ⌜ ((rs : List Run) (last : ℕ) → length rs ≡ terms .count
         → VotesIn (withTerms (terms .width) (cluster (now (roster .entry)))) last rs (now (votes .entry))
         → VotesIn (withTerms (terms .width) (cluster (now (roster .entry)))) candidate rs
         (now (votes .exit))) ⌝ }
     ensures tried { λ _. ⌜ ((rs : List Run) (last : ℕ) → length rs ≡ terms .count
         → VotesIn (withTerms (terms .width) (cluster (now (roster .entry)))) last rs (now (votes .entry))
-        → StampsPlaced (now (roster .entry)) (now (bag .entry)) terms rs (now (stamped .entry))
-        → Tried (now (roster .entry)) (now (bag .entry)) terms rs candidate (now (taken .entry))
-        → Tried (now (roster .entry)) (now (bag .entry)) terms rs (candidate - 1) (now (taken .exit))) ⌝ }
-    ensures held { λ _. ⌜ RowsHeld (terms .size) (now (bag .entry)) (replicas (now (roster .entry)))
+        → StampsPlaced (now (roster .entry)) (now (items .entry)) terms rs (now (stamped .entry))
+        → Tried (now (roster .entry)) (now (items .entry)) terms rs candidate (now (taken .entry))
+        → Tried (now (roster .entry)) (now (items .entry)) terms rs (candidate - 1) (now (taken .exit))) ⌝ }
+    ensures held { λ _. ⌜ RowsHeld (terms .size) (now (items .entry)) (replicas (now (roster .entry)))
         (terms .count) (now (taken .exit)) ⌝ }
     ensures rooms { λ _. ⌜ (length (now (votes .exit)) ≡ length (now (votes .entry)))
         × (length (now (taken .exit)) ≡ length (now (taken .entry))) ⌝ }
 {
     let mut voted = [0usize; CELLS];
-    find_votes(roster, bag, votes, terms, candidate, &mut voted);
+    find_votes(roster, items, votes, terms, candidate, &mut voted);
     settle(
         roster::replicas(roster),
         candidate,
@@ -184,34 +184,34 @@ fn try_candidate(
 // Tries all candidates, from n down.
 fn try_all(
     roster: &[u8],
-    bag: &[u8],
+    items: &[u8],
     votes: &mut [u8],
     stamped: &[usize],
     terms: Terms,
     taken: &mut [usize],
 )
-    requires { ⌜ Choosable (now roster) (now bag) terms × (votesRoom (terms .width) ≤ length (now votes))
+    requires { ⌜ Choosable (now roster) (now items) terms × (votesRoom (terms .width) ≤ length (now votes))
         × (replicasMost * terms .count ≤ length (now stamped))
         × (takenSize * terms .count ≤ length (now taken))
-        × Placed (terms .size) (now bag) (replicasMost * terms .count) (now stamped)
-        × RowsHeld (terms .size) (now bag) (replicas (now roster)) (terms .count) (now taken) ⌝ }
+        × Placed (terms .size) (now items) (replicasMost * terms .count) (now stamped)
+        × RowsHeld (terms .size) (now items) (replicas (now roster)) (terms .count) (now taken) ⌝ }
     ensures votes { λ _. ⌜ ((rs : List Run) → length rs ≡ terms .count
         → VotesIn (withTerms (terms .width) (cluster (now (roster .entry)))) 0 rs (now (votes .entry))
         → VotesIn (withTerms (terms .width) (cluster (now (roster .entry)))) 1 rs (now (votes .exit))) ⌝ }
     ensures tried { λ _. ⌜ ((rs : List Run) → length rs ≡ terms .count
         → VotesIn (withTerms (terms .width) (cluster (now (roster .entry)))) 0 rs (now (votes .entry))
-        → StampsPlaced (now (roster .entry)) (now (bag .entry)) terms rs (now (stamped .entry))
-        → Tried (now (roster .entry)) (now (bag .entry)) terms rs (replicas (now (roster .entry)))
+        → StampsPlaced (now (roster .entry)) (now (items .entry)) terms rs (now (stamped .entry))
+        → Tried (now (roster .entry)) (now (items .entry)) terms rs (replicas (now (roster .entry)))
         (now (taken .entry))
-        → Tried (now (roster .entry)) (now (bag .entry)) terms rs 0 (now (taken .exit))) ⌝ }
-    ensures held { λ _. ⌜ RowsHeld (terms .size) (now (bag .entry)) (replicas (now (roster .entry)))
+        → Tried (now (roster .entry)) (now (items .entry)) terms rs 0 (now (taken .exit))) ⌝ }
+    ensures held { λ _. ⌜ RowsHeld (terms .size) (now (items .entry)) (replicas (now (roster .entry)))
         (terms .count) (now (taken .exit)) ⌝ }
     ensures rooms { λ _. ⌜ (length (now (votes .exit)) ≡ length (now (votes .entry)))
         × (length (now (taken .exit)) ≡ length (now (taken .entry))) ⌝ }
 {
     let mut candidate = roster::replicas(roster);
     while 0 < candidate {
-        try_candidate(roster, bag, votes, stamped, terms, candidate, taken);
+        try_candidate(roster, items, votes, stamped, terms, candidate, taken);
         candidate -= 1;
     }
 }
@@ -221,18 +221,18 @@ fn try_all(
 // table is left for candidate 1.
 pub fn choose(
     roster: &[u8],
-    bag: &[u8],
+    items: &[u8],
     votes: &mut [u8],
     stamps: &[u8],
     terms: Terms,
     taken: &mut [usize],
 ) -> bool
-    requires { ⌜ Choosable (now roster) (now bag) terms × (votesRoom (terms .width) ≤ length (now votes))
+    requires { ⌜ Choosable (now roster) (now items) terms × (votesRoom (terms .width) ≤ length (now votes))
         × (stampsRoom (terms .width) ≤ length (now stamps))
         × (takenSize * terms .count ≤ length (now taken)) ⌝ }
-    ensures leaders { λ r. ⌜ LeadersChosen (now (roster .entry)) (now (bag .entry)) (now (votes .entry))
+    ensures leaders { λ r. ⌜ LeadersChosen (now (roster .entry)) (now (items .entry)) (now (votes .entry))
         (now (stamps .entry)) terms r (now (taken .exit)) ⌝ }
-    ensures held { λ _. ⌜ RowsHeld (terms .size) (now (bag .entry)) (replicas (now (roster .entry)))
+    ensures held { λ _. ⌜ RowsHeld (terms .size) (now (items .entry)) (replicas (now (roster .entry)))
         (terms .count) (now (taken .exit)) ⌝ }
     ensures votes { λ _. ⌜ ((rs : List Run) → length rs ≡ terms .count
         → VotesIn (withTerms (terms .width) (cluster (now (roster .entry)))) 0 rs (now (votes .entry))
@@ -242,8 +242,8 @@ pub fn choose(
 {
     let count = terms.count;
     let mut stamped = [0usize; CELLS];
-    find_stamps(roster, bag, stamps, terms, &mut stamped);
+    find_stamps(roster, items, stamps, terms, &mut stamped);
     assembly_copies::clear(taken, TAKEN_SIZE * count);
-    try_all(roster, bag, votes, &stamped, terms, taken);
+    try_all(roster, items, votes, &stamped, terms, taken);
     all_taken(taken, count)
 }

@@ -75,11 +75,11 @@ module _ (form : Form) (roster : List ℕ) (items : List Item) (log : List Recor
   commit-none (suc i) h = absurd (omega (arith, h))
 
   -- whether there are enough of them, by the mask of their places
-  pub enough : (S n mask q i : ℕ) (bag places : List ℕ) → mask ≡ signersOf (copiesAt S bag n places) → n ≡ replicas roster
-      → q ≡ quorum n → copiesAt S bag (replicas roster) places ≡ receiptsFor form roster items i log
+  pub enough : (S n mask q i : ℕ) (itemBytes places : List ℕ) → mask ≡ signersOf (copiesAt S itemBytes n places) → n ≡ replicas roster
+      → q ≡ quorum n → copiesAt S itemBytes (replicas roster) places ≡ receiptsFor form roster items i log
       → (ones mask ≡ ones (signersOf (receiptsFor form roster items i log))) × (q ≡ quorum (replicas roster))
-  enough S n mask q i bag places m e k found =
-      (ap ones (m ∙ ap (λ j. signersOf (copiesAt S bag j places)) e ∙ ap signersOf found), k ∙ ap quorum e)
+  enough S n mask q i itemBytes places m e k found =
+      (ap ones (m ∙ ap (λ j. signersOf (copiesAt S itemBytes j places)) e ∙ ap signersOf found), k ∙ ap quorum e)
 
 -- ---- its row
 
@@ -92,38 +92,38 @@ row-made row places i size room =
     sets-eq vs row 0 (omega (arith, size, few))
     ∙ ap (λ z. vs ++ z) (drop-of-length-le row {i = 0 + length vs} (omega (arith, size, long))) ∙ append-nil vs
 
-module _ (S : ℕ) (bag : List ℕ) (n : ℕ) where
-  pub row-of : (i : ℕ) (places : List ℕ) (cs : List (Option (List ℕ))) → 0 < i → n ≤ replicasMost → copiesAt S bag n places ≡ cs
+module _ (S : ℕ) (itemBytes : List ℕ) (n : ℕ) where
+  pub row-of : (i : ℕ) (places : List ℕ) (cs : List (Option (List ℕ))) → 0 < i → n ≤ replicasMost → copiesAt S itemBytes n places ≡ cs
       → some (record { index = i; signers = signersOf cs; signatures = signaturesOf cs })
-      ≡ commitIn S bag n (i ∷ 0 ∷ take replicasMost places)
+      ≡ commitIn S itemBytes n (i ∷ 0 ∷ take replicasMost places)
   unfolding commitIn copiesAt getD
   row-of i places cs p few e =
       let first : take n (take replicasMost places) ≡ take n places = take-take n replicasMost places few in
       let some-index : eqb i 0 ≡ false = ne-eqb i 0 (λ z. omega (arith, z, p)) in
       rw (first, e, some-index)
 
-  pub row-none : (row : List ℕ) → getD row 0 0 ≡ 0 → none ≡ commitIn S bag n row
+  pub row-none : (row : List ℕ) → getD row 0 0 ≡ 0 → none ≡ commitIn S itemBytes n row
   unfolding commitIn
   row-none row e = rw (eq-eqb (getD row 0 0) 0 e)
 
-pub row-held : (S : ℕ) (bag : List ℕ) (records i : ℕ) (places : List ℕ) → i ≤ records → Placed S bag replicasMost places
-    → CommitRowHeld S bag records (i ∷ 0 ∷ take replicasMost places)
+pub row-held : (S : ℕ) (itemBytes : List ℕ) (records i : ℕ) (places : List ℕ) → i ≤ records → Placed S itemBytes replicasMost places
+    → CommitRowHeld S itemBytes records (i ∷ 0 ∷ take replicasMost places)
 unfolding Placed getD
-row-held S bag records i places h held =
+row-held S itemBytes records i places h held =
     record {
       index = h;
       places = λ k low high. place k low high;
     }
   where
-    place : (k : ℕ) → 0 < k → k < takenSize → getD (i ∷ 0 ∷ take replicasMost places) k 0 ≤ length bag - S
+    place : (k : ℕ) → 0 < k → k < takenSize → getD (i ∷ 0 ∷ take replicasMost places) k 0 ≤ length itemBytes - S
     place zero low high = absurd (omega (arith, low))
     place (suc zero) low high = zero-le
     place (suc (suc k)) low high =
         let early : k < replicasMost = omega (arith, high) in
         rw (getD-take replicasMost places k 0 early) (held k early)
 
-pub row-empty : (S : ℕ) (bag : List ℕ) (records : ℕ) (row : List ℕ) → ((j : ℕ) → j < takenSize → getD row j 0 ≡ 0) → CommitRowHeld S bag records row
-row-empty S bag records row e =
+pub row-empty : (S : ℕ) (itemBytes : List ℕ) (records : ℕ) (row : List ℕ) → ((j : ℕ) → j < takenSize → getD row j 0 ≡ 0) → CommitRowHeld S itemBytes records row
+row-empty S itemBytes records row e =
     record {
       index = rw (e 0 (omega arith)) zero-le;
       places = λ k low high. rw (e k high) zero-le;

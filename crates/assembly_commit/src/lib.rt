@@ -27,19 +27,19 @@ pub struct LogSizes {
 fn find_receipts(
     roster: &[u8],
     log: &[u8],
-    bag: &[u8],
+    items: &[u8],
     widths: LogSizes,
     i: usize,
     table: &[u8],
     places: &mut [usize],
 )
-    requires { ⌜ Receivable (now roster) (now log) (now bag) widths × (i ≤ widths .records)
+    requires { ⌜ Receivable (now roster) (now log) (now items) widths × (i ≤ widths .records)
         × (tableSize (widths .records) ≤ length (now table))
         × Checkpoints (widths .width) (widths .records) (now log) (now table)
         × (replicasMost ≤ length (now places)) ⌝ }
-    ensures receipts { λ _. ⌜ ReceiptsFound (now (roster .entry)) (now (log .entry)) (now (bag .entry)) widths
-        i (now (places .exit)) ⌝ }
-    ensures placed { λ _. ⌜ Placed (widths .size) (now (bag .entry)) replicasMost (now (places .exit)) ⌝ }
+    ensures receipts { λ _. ⌜ ReceiptsFound (now (roster .entry)) (now (log .entry)) (now (items .entry))
+        widths i (now (places .exit)) ⌝ }
+    ensures placed { λ _. ⌜ Placed (widths .size) (now (items .entry)) replicasMost (now (places .exit)) ⌝ }
     ensures room { λ _. ⌜ length (now (places .exit)) ≡ length (now (places .entry)) ⌝ }
 {
     let width = widths.width;
@@ -64,15 +64,15 @@ fn find_receipts(
         tail: 0,
         count: 1,
     };
-    assembly_copies::find_copies(roster, bag, &statement, sought, places);
+    assembly_copies::find_copies(roster, items, &statement, sought, places);
 }
 
 // Finds the commit, and puts its row down: index, or 0 for none, a 0, and the places of the receipts.
-pub fn find_commit(roster: &[u8], log: &[u8], bag: &[u8], widths: LogSizes, row: &mut [usize])
-    requires { ⌜ Receivable (now roster) (now log) (now bag) widths × (length (now row) ≡ takenSize) ⌝ }
-    ensures commit { λ _. ⌜ CommitFound (now (roster .entry)) (now (log .entry)) (now (bag .entry)) widths
+pub fn find_commit(roster: &[u8], log: &[u8], items: &[u8], widths: LogSizes, row: &mut [usize])
+    requires { ⌜ Receivable (now roster) (now log) (now items) widths × (length (now row) ≡ takenSize) ⌝ }
+    ensures commit { λ _. ⌜ CommitFound (now (roster .entry)) (now (log .entry)) (now (items .entry)) widths
         (now (row .exit)) ⌝ }
-    ensures held { λ _. ⌜ CommitRowHeld (widths .size) (now (bag .entry)) (widths .records)
+    ensures held { λ _. ⌜ CommitRowHeld (widths .size) (now (items .entry)) (widths .records)
         (now (row .exit)) ⌝ }
     ensures room { λ _. ⌜ length (now (row .exit)) ≡ takenSize ⌝ }
 {
@@ -84,7 +84,7 @@ pub fn find_commit(roster: &[u8], log: &[u8], bag: &[u8], widths: LogSizes, row:
     let mut places = [0usize; REPLICAS_MOST];
     let mut i = records;
     while 0 < i {
-        find_receipts(roster, log, bag, widths, i, &table, &mut places);
+        find_receipts(roster, log, items, widths, i, &table, &mut places);
         if quorum <= u16::count_ones(assembly_copies::masks::mask_of(&places, n)) {
             assembly_copies::places::put_row(row, 0, i, 0, &places);
             return;

@@ -90,70 +90,70 @@ module _ (wanted : List ℕ) (q : Sought) (inside : q .head + q .tail * q .count
 
 -- ---- an item of the bag
 
-module _ (roster bag wanted : List ℕ) (q : Sought) (i : ItemPlace) (lies : Lies (q .size) bag i) where
-  item-length : length (itemOf bag i .statement) ≡ i .signature - i .statement
+module _ (roster itemBytes wanted : List ℕ) (q : Sought) (i : ItemPlace) (lies : Lies (q .size) itemBytes i) where
+  item-length : length (itemOf itemBytes i .statement) ≡ i .signature - i .statement
   unfolding itemOf
   item-length = length-take-le (i .signature - i .statement) _ (rw length-drop (omega (arith, lies .begins, lies .ends, lies .within)))
 
-  pub no-replica : i .replica ≡ 0 → Unlike roster bag wanted q i
+  pub no-replica : i .replica ≡ 0 → Unlike roster itemBytes wanted q i
   unfolding Unlike itemOf
-  no-replica e m k few known = other-replica roster (suc k) (statementAt q wanted m) (itemOf bag i) (λ (h : i .replica ≡ suc k). omega (arith, e, h))
+  no-replica e m k few known = other-replica roster (suc k) (statementAt q wanted m) (itemOf itemBytes i) (λ (h : i .replica ≡ suc k). omega (arith, e, h))
 
-  pub beyond : replicas roster < i .replica → Unlike roster bag wanted q i
+  pub beyond : replicas roster < i .replica → Unlike roster itemBytes wanted q i
   unfolding Unlike itemOf
-  beyond e m k few known = other-replica roster (suc k) (statementAt q wanted m) (itemOf bag i) (λ (h : i .replica ≡ suc k). omega (arith, e, h, known))
+  beyond e m k few known = other-replica roster (suc k) (statementAt q wanted m) (itemOf itemBytes i) (λ (h : i .replica ≡ suc k). omega (arith, e, h, known))
 
   module _ (inside : q .head + q .tail * q .count ≤ length wanted) where
-    pub other-length : (i .signature - i .statement ≡ q .head + q .tail → ⊥) → Unlike roster bag wanted q i
+    pub other-length : (i .signature - i .statement ≡ q .head + q .tail → ⊥) → Unlike roster itemBytes wanted q i
     unfolding Unlike
     other-length h m k few known =
-        other-statement roster (suc k) (statementAt q wanted m) (itemOf bag i)
+        other-statement roster (suc k) (statementAt q wanted m) (itemOf itemBytes i)
         (λ e. h (sym item-length ∙ ap (λ (l : List ℕ). length l) e ∙ statement-length wanted q inside m few))
 
-    pub other-head : q .head ≤ i .signature - i .statement → (take (q .head) (drop (i .statement) bag) ≡ take (q .head) wanted → ⊥) → Unlike roster bag wanted q i
+    pub other-head : q .head ≤ i .signature - i .statement → (take (q .head) (drop (i .statement) itemBytes) ≡ take (q .head) wanted → ⊥) → Unlike roster itemBytes wanted q i
     unfolding Unlike itemOf
     other-head long h m k few known =
-        other-statement roster (suc k) (statementAt q wanted m) (itemOf bag i)
+        other-statement roster (suc k) (statementAt q wanted m) (itemOf itemBytes i)
         (λ e.
         h
-        (sym (take-take (q .head) (i .signature - i .statement) (drop (i .statement) bag) long)
+        (sym (take-take (q .head) (i .signature - i .statement) (drop (i .statement) itemBytes) long)
         ∙ ap (λ (l : List ℕ). take (q .head) l) e
         ∙ statement-head wanted q inside m few))
 
     -- where length and beginning agree
-    module _ (alike : Alike roster bag wanted q i) (m : ℕ) (few : m < q .count) where
-      item-parts : itemOf bag i .statement ≡ take (q .head) wanted ++ take (q .tail) (drop (i .statement + q .head) bag)
+    module _ (alike : Alike roster itemBytes wanted q i) (m : ℕ) (few : m < q .count) where
+      item-parts : itemOf itemBytes i .statement ≡ take (q .head) wanted ++ take (q .tail) (drop (i .statement + q .head) itemBytes)
       unfolding itemOf
       item-parts =
           let long : i .signature - i .statement ≡ q .head + q .tail = omega (arith, alike .long) in
           rw (long, take-add, alike .headed, drop-drop)
 
-      end-there : take (q .tail) (drop (i .statement + q .head) bag)
-          ≡ take (length (ownOf q wanted m)) (drop (i .signature - length (ownOf q wanted m)) bag)
+      end-there : take (q .tail) (drop (i .statement + q .head) itemBytes)
+          ≡ take (length (ownOf q wanted m)) (drop (i .signature - length (ownOf q wanted m)) itemBytes)
       end-there =
           let start : i .statement + q .head ≡ i .signature - q .tail = omega (arith, alike .long) in
-          rw (own-length wanted q inside m few) (ap (λ (n : ℕ). take (q .tail) (drop n bag)) start)
+          rw (own-length wanted q inside m few) (ap (λ (n : ℕ). take (q .tail) (drop n itemBytes)) start)
 
       -- its end decides
-      pub end-decides : fits roster (i .replica) (statementAt q wanted m) (itemOf bag i) ≡ isCopy roster bag i (ownOf q wanted m)
+      pub end-decides : fits roster (i .replica) (statementAt q wanted m) (itemOf itemBytes i) ≡ isCopy roster itemBytes i (ownOf q wanted m)
       unfolding isCopy statementAt itemOf
       end-decides =
           let tests =
           ap (λ (l : List ℕ). same l (statementAt q wanted m)) item-parts
-          ∙ same-after (take (q .head) wanted) (take (q .tail) (drop (i .statement + q .head) bag)) (ownOf q wanted m)
+          ∙ same-after (take (q .head) wanted) (take (q .tail) (drop (i .statement + q .head) itemBytes)) (ownOf q wanted m)
           ∙ ap (λ (l : List ℕ). same l (ownOf q wanted m)) end-there in
-          fits-self roster (i .replica) (statementAt q wanted m) (itemOf bag i) refl
-          ∙ ap (λ (b : Bool). all (b ∷ good (keyOf roster (i .replica)) (itemOf bag i .statement) (itemOf bag i .signature) ∷ [])) tests
+          fits-self roster (i .replica) (statementAt q wanted m) (itemOf itemBytes i) refl
+          ∙ ap (λ (b : Bool). all (b ∷ good (keyOf roster (i .replica)) (itemOf itemBytes i .statement) (itemOf itemBytes i .signature) ∷ [])) tests
 
     -- ---- what the code has asked
 
-    pub refuses : Unlike roster bag wanted q i → (false ≡ true → Alike roster bag wanted q i) × (false ≡ false → Unlike roster bag wanted q i)
+    pub refuses : Unlike roster itemBytes wanted q i → (false ≡ true → Alike roster itemBytes wanted q i) × (false ≡ false → Unlike roster itemBytes wanted q i)
     refuses u = ((λ e. absurd (false≢true e)), λ e. u)
 
     pub decides : {r : Bool} → i .signature ≡ i .statement + (q .head + q .tail) → 0 < i .replica → i .replica ≤ replicas roster
-        → (r ≡ true → take (q .head) (drop (i .statement) bag) ≡ take (q .head) wanted)
-        × (take (q .head) (drop (i .statement) bag) ≡ take (q .head) wanted → r ≡ true)
-        → (r ≡ true → Alike roster bag wanted q i) × (r ≡ false → Unlike roster bag wanted q i)
+        → (r ≡ true → take (q .head) (drop (i .statement) itemBytes) ≡ take (q .head) wanted)
+        × (take (q .head) (drop (i .statement) itemBytes) ≡ take (q .head) wanted → r ≡ true)
+        → (r ≡ true → Alike roster itemBytes wanted q i) × (r ≡ false → Unlike roster itemBytes wanted q i)
     decides long numbered known p = (
       (λ e. record { numbered = numbered; known = known; long = long; headed = p .0 e }),
       λ e. other-head (omega (arith, long)) (λ h. false≢true (sym e ∙ p .1 h)),

@@ -43,30 +43,30 @@ module _ (cell place : ℕ) (fit : Bool) where
 
 -- ---- the statements before
 
-module _ (roster bag wanted : List ℕ) (q : Sought) (i : ItemPlace) (before : List ℕ) where
+module _ (roster itemBytes wanted : List ℕ) (q : Sought) (i : ItemPlace) (before : List ℕ) where
   pub record Turned (rows : List ℕ) (m : ℕ) : Type 0 where
     pub low : m ≤ q .count
     pub room : length rows ≡ length before
-    pub placed : Placed (q .size) bag (replicasMost * q .count) rows
-    pub done : (l k : ℕ) → l < m → k < replicas roster → getD rows (replicasMost * l + k) 0 ≡ cellAfter roster bag wanted q i before l k
+    pub placed : Placed (q .size) itemBytes (replicasMost * q .count) rows
+    pub done : (l k : ℕ) → l < m → k < replicas roster → getD rows (replicasMost * l + k) 0 ≡ cellAfter roster itemBytes wanted q i before l k
     pub kept : (j : ℕ) → replicasMost * m ≤ j → getD rows j 0 ≡ getD before j 0
 
-  pub turned-none : Placed (q .size) bag (replicasMost * q .count) before → Turned before 0
+  pub turned-none : Placed (q .size) itemBytes (replicasMost * q .count) before → Turned before 0
   turned-none placed =
       record { low = omega arith; room = refl; placed = placed; done = λ l k h. absurd (omega (arith, h)); kept = λ j h. refl }
 
-  pub turned-all : (rows : List ℕ) (m : ℕ) → Turned rows m → q .count ≤ m → Taken roster bag wanted q i before rows
+  pub turned-all : (rows : List ℕ) (m : ℕ) → Turned rows m → q .count ≤ m → Taken roster itemBytes wanted q i before rows
   unfolding Taken
   turned-all rows m t all l k hl hk = t .done l k (omega (arith, all, hl)) hk
 
-  module _ (few : replicas roster ≤ replicasMost) (lies : Lies (q .size) bag i) (alike : Alike roster bag wanted q i) (m : ℕ) (more : m < q .count)
+  module _ (few : replicas roster ≤ replicasMost) (lies : Lies (q .size) itemBytes i) (alike : Alike roster itemBytes wanted q i) (m : ℕ) (more : m < q .count)
       (rows : List ℕ) (t : Turned rows m) where
     abbrev pub cellOf : ℕ
     cellOf = replicasMost * m + (i .replica - 1)
 
     -- one more, from what stands at the one cell that may change
-    turn : (after : List ℕ) → length after ≡ length rows → Placed (q .size) bag (replicasMost * q .count) after
-        → getD after cellOf 0 ≡ cellAfter roster bag wanted q i before m (i .replica - 1)
+    turn : (after : List ℕ) → length after ≡ length rows → Placed (q .size) itemBytes (replicasMost * q .count) after
+        → getD after cellOf 0 ≡ cellAfter roster itemBytes wanted q i before m (i .replica - 1)
         → ((j : ℕ) → (j ≡ cellOf → ⊥) → getD after j 0 ≡ getD rows j 0)
         → Turned after (m + 1)
     unfolding cellAfter itemOf
@@ -93,8 +93,8 @@ module _ (roster bag wanted : List ℕ) (q : Sought) (i : ItemPlace) (before : L
               let same-row : l ≡ m = omega (arith, ltb-false l m e, hl) in
               t .kept (replicasMost * l + k) (omega (arith, same-row))
               ∙ sym
-              (unfit (getD before (replicasMost * l + k) 0) (i .signature) (fits roster (suc k) (statementAt q wanted l) (itemOf bag i))
-              (other-replica roster (suc k) (statementAt q wanted l) (itemOf bag i) (λ (h : i .replica ≡ suc k). other (omega (arith, same-row, h))))))
+              (unfit (getD before (replicasMost * l + k) 0) (i .signature) (fits roster (suc k) (statementAt q wanted l) (itemOf itemBytes i))
+              (other-replica roster (suc k) (statementAt q wanted l) (itemOf itemBytes i) (λ (h : i .replica ≡ suc k). other (omega (arith, same-row, h))))))
               (look (ltb l m)))
               (look (eqb (replicasMost * l + k) cellOf));
           kept = λ j h. others j (λ e. omega (arith, h, e, few, known, number)) ∙ t .kept j (omega (arith, h));
@@ -110,23 +110,23 @@ module _ (roster bag wanted : List ℕ) (q : Sought) (i : ItemPlace) (before : L
         turn rows refl (t .placed)
         (here-before
         ∙ sym
-        (had (getD before cellOf 0) (i .signature) (fits roster (suc (i .replica - 1)) (statementAt q wanted m) (itemOf bag i)) (λ z. h (here-before ∙ z))))
+        (had (getD before cellOf 0) (i .signature) (fits roster (suc (i .replica - 1)) (statementAt q wanted m) (itemOf itemBytes i)) (λ z. h (here-before ∙ z))))
         (λ j h. refl)
 
     module _ (inside : q .head + q .tail * q .count ≤ length wanted) where
-      fit-here : fits roster (suc (i .replica - 1)) (statementAt q wanted m) (itemOf bag i) ≡ isCopy roster bag i (ownOf q wanted m)
+      fit-here : fits roster (suc (i .replica - 1)) (statementAt q wanted m) (itemOf itemBytes i) ≡ isCopy roster itemBytes i (ownOf q wanted m)
       fit-here =
           let number : suc (i .replica - 1) ≡ i .replica = omega (arith, alike .numbered) in
-          ap (λ (k : ℕ). fits roster k (statementAt q wanted m) (itemOf bag i)) number ∙ end-decides roster bag wanted q i lies inside alike m more
+          ap (λ (k : ℕ). fits roster k (statementAt q wanted m) (itemOf itemBytes i)) number ∙ end-decides roster itemBytes wanted q i lies inside alike m more
 
       -- the item is no copy
-      pub turn-unfit : isCopy roster bag i (ownOf q wanted m) ≡ false → Turned rows (m + 1)
+      pub turn-unfit : isCopy roster itemBytes i (ownOf q wanted m) ≡ false → Turned rows (m + 1)
       unfolding cellAfter
       turn-unfit e =
           turn rows refl (t .placed)
           (here-before
           ∙ sym
-          (unfit (getD before cellOf 0) (i .signature) (fits roster (suc (i .replica - 1)) (statementAt q wanted m) (itemOf bag i)) (fit-here ∙ e)))
+          (unfit (getD before cellOf 0) (i .signature) (fits roster (suc (i .replica - 1)) (statementAt q wanted m) (itemOf itemBytes i)) (fit-here ∙ e)))
           (λ j h. refl)
 
       -- it is one, and there was none
@@ -134,7 +134,7 @@ module _ (roster bag wanted : List ℕ) (q : Sought) (i : ItemPlace) (before : L
         cell-inside : cellOf < length rows
         cell-inside = omega (arith, cells, t .room, more, alike .numbered, alike .known, few)
 
-        placed-set : Placed (q .size) bag (replicasMost * q .count) (set rows cellOf (i .signature))
+        placed-set : Placed (q .size) itemBytes (replicasMost * q .count) (set rows cellOf (i .signature))
         unfolding Placed
         placed-set j h =
             ⊎-elim
@@ -143,12 +143,12 @@ module _ (roster bag wanted : List ℕ) (q : Sought) (i : ItemPlace) (before : L
             (λ (e : eqb j cellOf ≡ false). rw (getD-set-other rows cellOf j (i .signature) 0 (eqb-false j cellOf e)) (t .placed j h))
             (look (eqb j cellOf))
 
-        pub turn-taken : getD rows cellOf 0 ≡ 0 → isCopy roster bag i (ownOf q wanted m) ≡ true → Turned (set rows cellOf (i .signature)) (m + 1)
+        pub turn-taken : getD rows cellOf 0 ≡ 0 → isCopy roster itemBytes i (ownOf q wanted m) ≡ true → Turned (set rows cellOf (i .signature)) (m + 1)
         unfolding cellAfter
         turn-taken z e =
             turn (set rows cellOf (i .signature)) (length-set rows cellOf (i .signature)) placed-set
             (getD-set-same rows cellOf (i .signature) 0 cell-inside
             ∙ sym
-            (fit-taken (getD before cellOf 0) (i .signature) (fits roster (suc (i .replica - 1)) (statementAt q wanted m) (itemOf bag i))
+            (fit-taken (getD before cellOf 0) (i .signature) (fits roster (suc (i .replica - 1)) (statementAt q wanted m) (itemOf itemBytes i))
             (sym here-before ∙ z) (fit-here ∙ e)))
             (λ j h. getD-set-other rows cellOf j (i .signature) 0 h)

@@ -20,20 +20,20 @@ use Rattle.assembly_copies.specs.Offers.{Lies, Unlike, Taken}
 use Rattle.assembly_copies.proofs.Copies.{Found, found-none, found-taken, found-unlike, found-all}
 
 -- an item that was read lies in the bag
-pub item-lies : (w S : ℕ) (bag : List ℕ) (at : ℕ) {i : ItemPlace} → itemReading w S bag at ≡ Read i → Lies S bag i
-item-lies w S bag at e =
-    let here = stands w S bag at e in
+pub item-lies : (w S : ℕ) (itemBytes : List ℕ) (at : ℕ) {i : ItemPlace} → itemReading w S itemBytes at ≡ Read i → Lies S itemBytes i
+item-lies w S itemBytes at e =
+    let here = stands w S itemBytes at e in
     record { begins = here .signature; ends = here .next; within = here .inside }
 
-module _ (roster bag wanted : List ℕ) (q : Sought) (room : ℕ) where
+module _ (roster itemBytes wanted : List ℕ) (q : Sought) (room : ℕ) where
   pub record Walked (rows : List ℕ) (at : ℕ) : Type 0 where
-    pub low : at ≤ length bag
-    pub rest : whole (q .width) (q .size) (drop at bag) ≡ true
+    pub low : at ≤ length itemBytes
+    pub rest : whole (q .width) (q .size) (drop at itemBytes) ≡ true
     pub long : length rows ≡ room
-    pub placed : Placed (q .size) bag (replicasMost * q .count) rows
-    pub found : Found roster bag wanted q rows (itemsOf (q .width) (q .size) (drop at bag)) (itemsOf (q .width) (q .size) bag)
+    pub placed : Placed (q .size) itemBytes (replicasMost * q .count) rows
+    pub found : Found roster itemBytes wanted q rows (itemsOf (q .width) (q .size) (drop at itemBytes)) (itemsOf (q .width) (q .size) itemBytes)
 
-  module _ (s : Searched roster bag wanted q room) where
+  module _ (s : Searched roster itemBytes wanted q room) where
     few : replicas roster ≤ replicasMost
     few = sizes roster (s .fine) .high
 
@@ -46,47 +46,47 @@ module _ (roster bag wanted : List ℕ) (q : Sought) (room : ℕ) where
           rest = s .items;
           long = long;
           placed = λ j h. rw (empty j h) (omega arith);
-          found = found-none roster bag wanted q rows (itemsOf (q .width) (q .size) bag) empty few;
+          found = found-none roster itemBytes wanted q rows (itemsOf (q .width) (q .size) itemBytes) empty few;
         }
 
-    pub walked-all : (rows : List ℕ) (at : ℕ) → Walked rows at → length bag ≤ at → CopiesFound roster bag wanted q rows
+    pub walked-all : (rows : List ℕ) (at : ℕ) → Walked rows at → length itemBytes ≤ at → CopiesFound roster itemBytes wanted q rows
     walked-all rows at walked end =
-        found-all roster bag wanted q rows few (omega (arith, s .cells, walked .long)) (rw (items-end (q .width) (q .size) bag at end) at (walked .found))
+        found-all roster itemBytes wanted q rows few (omega (arith, s .cells, walked .long)) (rw (items-end (q .width) (q .size) itemBytes at end) at (walked .found))
 
-  module _ (rows : List ℕ) (at : ℕ) (walked : Walked rows at) (more : at < length bag) where
+  module _ (rows : List ℕ) (at : ℕ) (walked : Walked rows at) (more : at < length itemBytes) where
     -- no reading is refused
-    pub never : itemReading (q .width) (q .size) bag at ≡ Refused → ⊥
-    never e = false≢true (sym (refused-broken (q .width) (q .size) bag at more e) ∙ walked .rest)
+    pub never : itemReading (q .width) (q .size) itemBytes at ≡ Refused → ⊥
+    never e = false≢true (sym (refused-broken (q .width) (q .size) itemBytes at more e) ∙ walked .rest)
 
-    module _ {i : ItemPlace} (e : itemReading (q .width) (q .size) bag at ≡ Read i) where
-      next-rest : whole (q .width) (q .size) (drop (i .next) bag) ≡ true
-      next-rest = sym (whole-next (q .width) (q .size) bag at more e) ∙ walked .rest
+    module _ {i : ItemPlace} (e : itemReading (q .width) (q .size) itemBytes at ≡ Read i) where
+      next-rest : whole (q .width) (q .size) (drop (i .next) itemBytes) ≡ true
+      next-rest = sym (whole-next (q .width) (q .size) itemBytes at more e) ∙ walked .rest
 
       -- past an item that is no copy
-      pub walked-unlike : Unlike roster bag wanted q i → Walked rows (i .next)
+      pub walked-unlike : Unlike roster itemBytes wanted q i → Walked rows (i .next)
       walked-unlike unlike =
           record {
-            low = stands (q .width) (q .size) bag at e .inside;
+            low = stands (q .width) (q .size) itemBytes at e .inside;
             rest = next-rest;
             long = walked .long;
             placed = walked .placed;
-            found = found-unlike roster bag wanted q i rows (itemsOf (q .width) (q .size) (drop (i .next) bag)) (itemsOf (q .width) (q .size) bag)
-                (rw (items-next (q .width) (q .size) bag at more e) at (walked .found)) unlike;
+            found = found-unlike roster itemBytes wanted q i rows (itemsOf (q .width) (q .size) (drop (i .next) itemBytes)) (itemsOf (q .width) (q .size) itemBytes)
+                (rw (items-next (q .width) (q .size) itemBytes at more e) at (walked .found)) unlike;
           }
 
       -- past one that was offered
-      pub walked-taken : (after : List ℕ) → Taken roster bag wanted q i rows after → Placed (q .size) bag (replicasMost * q .count) after
+      pub walked-taken : (after : List ℕ) → Taken roster itemBytes wanted q i rows after → Placed (q .size) itemBytes (replicasMost * q .count) after
           → length after ≡ length rows → Walked after (i .next)
       walked-taken after taken placed long =
           record {
-            low = stands (q .width) (q .size) bag at e .inside;
+            low = stands (q .width) (q .size) itemBytes at e .inside;
             rest = next-rest;
             long = long ∙ walked .long;
             placed = placed;
-            found = found-taken roster bag wanted q i rows (itemsOf (q .width) (q .size) (drop (i .next) bag)) (itemsOf (q .width) (q .size) bag)
-                (rw (items-next (q .width) (q .size) bag at more e) at (walked .found)) after (item-lies (q .width) (q .size) bag at e) taken;
+            found = found-taken roster itemBytes wanted q i rows (itemsOf (q .width) (q .size) (drop (i .next) itemBytes)) (itemsOf (q .width) (q .size) itemBytes)
+                (rw (items-next (q .width) (q .size) itemBytes at more e) at (walked .found)) after (item-lies (q .width) (q .size) itemBytes at e) taken;
           }
 
 -- the room as another says it
-pub searched-room : (roster bag wanted : List ℕ) (q : Sought) {room other : ℕ} → other ≡ room → Searched roster bag wanted q room → Searched roster bag wanted q other
-searched-room roster bag wanted q e s = rw e s
+pub searched-room : (roster itemBytes wanted : List ℕ) (q : Sought) {room other : ℕ} → other ≡ room → Searched roster itemBytes wanted q room → Searched roster itemBytes wanted q other
+searched-room roster itemBytes wanted q e s = rw e s

@@ -18,49 +18,50 @@ use Rattle.assembly_copies.specs.Rows.{replicasMost, Placed}
 use Rattle.assembly_copies.specs.Sought.{statementAt}
 
 -- an item that lies in the bag, with a signature of so many bytes
-pub record Lies (size : ℕ) (bag : List ℕ) (i : ItemPlace) : Type 0 where
+pub record Lies (size : ℕ) (itemBytes : List ℕ) (i : ItemPlace) : Type 0 where
   pub begins : i .statement < i .signature
   pub ends : i .next ≡ i .signature + size
-  pub within : i .next ≤ length bag
+  pub within : i .next ≤ length itemBytes
 
 -- one of the roster's replicas, and a statement as long as those that are looked for, which begins as they do
-pub record Alike (roster bag wanted : List ℕ) (q : Sought) (i : ItemPlace) : Type 0 where
+pub record Alike (roster itemBytes wanted : List ℕ) (q : Sought) (i : ItemPlace) : Type 0 where
   pub numbered : 0 < i .replica
   pub known : i .replica ≤ replicas roster
   pub long : i .signature ≡ i .statement + (q .head + q .tail)
-  pub headed : take (q .head) (drop (i .statement) bag) ≡ take (q .head) wanted
+  pub headed : take (q .head) (drop (i .statement) itemBytes) ≡ take (q .head) wanted
 
 -- the copy of no statement that is looked for
 unfoldable pub Unlike : List ℕ → List ℕ → List ℕ → Sought → ItemPlace → Type 0
-Unlike roster bag wanted q i =
+Unlike roster itemBytes wanted q i =
     (m k : ℕ) → m < q .count → k < replicas roster
-    → fits roster (suc k) (statementAt q wanted m) (itemOf bag i) ≡ false
+    → fits roster (suc k) (statementAt q wanted m) (itemOf itemBytes i) ≡ false
 
 -- whether the item's statement ends so, and its signature is good
 unfoldable pub isCopy : List ℕ → List ℕ → ItemPlace → List ℕ → Bool
-isCopy roster bag i end =
-    let item = itemOf bag i in
+isCopy roster itemBytes i end =
+    let item = itemOf itemBytes i in
     all (
-    same (take (length end) (drop (i .signature - length end) bag)) end ∷
+    same (take (length end) (drop (i .signature - length end) itemBytes)) end ∷
     good (keyOf roster (i .replica)) (item .statement) (item .signature) ∷ []
     )
 
 -- what the offer of an item asks for
-pub record Offered (roster bag wanted : List ℕ) (q : Sought) (i : ItemPlace) (rows : List ℕ) : Type 0 where
+pub record Offered (roster itemBytes wanted : List ℕ) (q : Sought) (i : ItemPlace) (rows : List ℕ)
+    : Type 0 where
   pub fine : rosterNumber roster ≡ 0
   pub short : q .head + q .tail ≤ limit
   pub inside : q .head + q .tail * q .count ≤ length wanted
   pub cells : replicasMost * q .count ≤ length rows
-  pub placed : Placed (q .size) bag (replicasMost * q .count) rows
-  pub lies : Lies (q .size) bag i
-  pub alike : Alike roster bag wanted q i
+  pub placed : Placed (q .size) itemBytes (replicasMost * q .count) rows
+  pub lies : Lies (q .size) itemBytes i
+  pub alike : Alike roster itemBytes wanted q i
 
-module _ (roster bag wanted : List ℕ) (q : Sought) (i : ItemPlace) where
+module _ (roster itemBytes wanted : List ℕ) (q : Sought) (i : ItemPlace) where
   -- what it makes of replica k + 1's place for statement m: a copy where there was none is taken
   unfoldable pub cellAfter : List ℕ → ℕ → ℕ → ℕ
   cellAfter rows m k =
       let cell = getD rows (replicasMost * m + k) 0 in
-      let fit = fits roster (suc k) (statementAt q wanted m) (itemOf bag i) in
+      let fit = fits roster (suc k) (statementAt q wanted m) (itemOf itemBytes i) in
       cond (all (eqb cell 0 ∷ fit ∷ [])) (i .signature) cell
 
   unfoldable pub Taken : List ℕ → List ℕ → Type 0

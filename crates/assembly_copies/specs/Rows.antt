@@ -24,10 +24,10 @@ takenSize = 2 + replicasMost
 abbrev pub rowAt : List ℕ → ℕ → List ℕ
 rowAt taken t = take takenSize (drop (takenSize * t) taken)
 
-module _ (S : ℕ) (bag : List ℕ) where
+module _ (S : ℕ) (itemBytes : List ℕ) where
   -- a signature by its place; place 0 is none
   unfoldable pub copyAt : ℕ → Option (List ℕ)
-  copyAt place = cond (eqb place 0) none (some (take S (drop place bag)))
+  copyAt place = cond (eqb place 0) none (some (take S (drop place itemBytes)))
 
   -- the copies of n replicas
   unfoldable pub copiesAt : ℕ → List ℕ → List (Option (List ℕ))
@@ -35,7 +35,7 @@ module _ (S : ℕ) (bag : List ℕ) where
 
   -- each of so many places, if it is not 0, has a whole signature
   unfoldable pub Placed : ℕ → List ℕ → Type 0
-  Placed count places = (j : ℕ) → j < count → getD places j 0 ≤ length bag - S
+  Placed count places = (j : ℕ) → j < count → getD places j 0 ≤ length itemBytes - S
 
   -- ---- what is taken
 

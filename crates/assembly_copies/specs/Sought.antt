@@ -18,18 +18,18 @@ unfoldable pub statementAt : Sought → List ℕ → ℕ → List ℕ
 statementAt q wanted m = take (q .head) wanted ++ take (q .tail) (drop (q .head + q .tail * m) wanted)
 
 -- what the walk asks for
-pub record Searched (roster bag wanted : List ℕ) (q : Sought) (room : ℕ) : Type 0 where
+pub record Searched (roster itemBytes wanted : List ℕ) (q : Sought) (room : ℕ) : Type 0 where
   pub fine : rosterNumber roster ≡ 0
   pub width : q .width ≤ widthMost
   pub size : q .size ≤ signatureMost
-  pub items : whole (q .width) (q .size) bag ≡ true
+  pub items : whole (q .width) (q .size) itemBytes ≡ true
   pub short : q .head + q .tail ≤ limit
   pub inside : q .head + q .tail * q .count ≤ length wanted
   pub cells : replicasMost * q .count ≤ room
 
 -- what it gives: row m has the copies of statement m
 unfoldable pub CopiesFound : List ℕ → List ℕ → List ℕ → Sought → List ℕ → Type 0
-CopiesFound roster bag wanted q rows =
+CopiesFound roster itemBytes wanted q rows =
     (m : ℕ) → m < q .count
-    → copiesAt (q .size) bag (replicas roster) (drop (replicasMost * m) rows)
-    ≡ copies roster (statementAt q wanted m) (itemsOf (q .width) (q .size) bag)
+    → copiesAt (q .size) itemBytes (replicas roster) (drop (replicasMost * m) rows)
+    ≡ copies roster (statementAt q wanted m) (itemsOf (q .width) (q .size) itemBytes)

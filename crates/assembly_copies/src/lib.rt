@@ -52,13 +52,13 @@ pub fn clear(rows: &mut [usize], count: usize)
 
 // Whether an item can be a copy: its replica is one of the roster's, and its statement is as long as those
 // that are looked for and begins as they do.
-fn alike(roster: &[u8], bag: &[u8], wanted: &[u8], sought: Sought, item: ItemPlace) -> bool
+fn alike(roster: &[u8], items: &[u8], wanted: &[u8], sought: Sought, item: ItemPlace) -> bool
     requires { ⌜ (rosterNumber (now roster) ≡ 0)
         × (sought .head + sought .tail * sought .count ≤ length (now wanted))
-        × Lies (sought .size) (now bag) item ⌝ }
-    ensures yes { λ r. ⌜ (r ≡ true → Alike (now (roster .entry)) (now (bag .entry)) (now (wanted .entry))
+        × Lies (sought .size) (now items) item ⌝ }
+    ensures yes { λ r. ⌜ (r ≡ true → Alike (now (roster .entry)) (now (items .entry)) (now (wanted .entry))
         sought item) ⌝ }
-    ensures no { λ r. ⌜ (r ≡ false → Unlike (now (roster .entry)) (now (bag .entry)) (now (wanted .entry))
+    ensures no { λ r. ⌜ (r ≡ false → Unlike (now (roster .entry)) (now (items .entry)) (now (wanted .entry))
         sought item) ⌝ }
 {
     let statement = item.statement;
@@ -80,47 +80,47 @@ fn alike(roster: &[u8], bag: &[u8], wanted: &[u8], sought: Sought, item: ItemPla
         return false;
     }
     let end = statement + head;
-    check::same(&bag[statement..end], &wanted[..head])
+    check::same(&items[statement..end], &wanted[..head])
 }
 
 // Whether an item that begins as the statements do is a copy: it ends with some bytes, and its signature is
 // good.
-fn is_copy(roster: &[u8], bag: &[u8], item: ItemPlace, end: &[u8]) -> bool
+fn is_copy(roster: &[u8], items: &[u8], item: ItemPlace, end: &[u8]) -> bool
     requires { ⌜ (rosterNumber (now roster) ≡ 0) × (0 < item .replica)
         × (item .replica ≤ replicas (now roster)) × (item .signature ≤ item .statement + limit)
         × (length (now end) ≤ item .signature) × (item .statement ≤ item .signature)
-        × (item .signature ≤ item .next) × (item .next ≤ length (now bag)) ⌝ }
-    ensures { λ r. ⌜ r ≡ isCopy (now (roster .entry)) (now (bag .entry)) item (now (end .entry)) ⌝ }
+        × (item .signature ≤ item .next) × (item .next ≤ length (now items)) ⌝ }
+    ensures { λ r. ⌜ r ≡ isCopy (now (roster .entry)) (now (items .entry)) item (now (end .entry)) ⌝ }
 {
     let statement = item.statement;
     let signature = item.signature;
     let next = item.next;
     let k = item.replica;
     let own = signature - end.len();
-    if !check::same(&bag[own..signature], end) {
+    if !check::same(&items[own..signature], end) {
         return false;
     }
     submission_slots::signature_genuine(
         roster,
         k as usize,
-        &bag[statement..signature],
-        &bag[signature..next],
+        &items[statement..signature],
+        &items[signature..next],
     )
 }
 
 // Offers an item to each statement: its place is put down where there is none, and it is a copy.
 fn offer(
     roster: &[u8],
-    bag: &[u8],
+    items: &[u8],
     wanted: &[u8],
     sought: Sought,
     item: ItemPlace,
     rows: &mut [usize],
 )
-    requires { ⌜ Offered (now roster) (now bag) (now wanted) sought item (now rows) ⌝ }
-    ensures taken { λ _. ⌜ Taken (now (roster .entry)) (now (bag .entry)) (now (wanted .entry)) sought item
+    requires { ⌜ Offered (now roster) (now items) (now wanted) sought item (now rows) ⌝ }
+    ensures taken { λ _. ⌜ Taken (now (roster .entry)) (now (items .entry)) (now (wanted .entry)) sought item
         (now (rows .entry)) (now (rows .exit)) ⌝ }
-    ensures placed { λ _. ⌜ Placed (sought .size) (now (bag .entry)) (replicasMost * sought .count)
+    ensures placed { λ _. ⌜ Placed (sought .size) (now (items .entry)) (replicasMost * sought .count)
         (now (rows .exit)) ⌝ }
     ensures room { λ _. ⌜ length (now (rows .exit)) ≡ length (now (rows .entry)) ⌝ }
 {
@@ -137,7 +137,7 @@ fn offer(
         let end = from + tail;
         m += 1;
         if rows[cell] == 0 {
-            if is_copy(roster, bag, item, &wanted[from..end]) {
+            if is_copy(roster, items, item, &wanted[from..end]) {
                 rows[cell] = signature;
             }
         }
@@ -145,25 +145,25 @@ fn offer(
 }
 
 // Finds the copies: row m has, for each replica, the place of its signature on statement m, or 0.
-pub fn find_copies(roster: &[u8], bag: &[u8], wanted: &[u8], sought: Sought, rows: &mut [usize])
-    requires { ⌜ Searched (now roster) (now bag) (now wanted) sought (length (now rows)) ⌝ }
-    ensures copies { λ _. ⌜ CopiesFound (now (roster .entry)) (now (bag .entry)) (now (wanted .entry)) sought
-        (now (rows .exit)) ⌝ }
-    ensures placed { λ _. ⌜ Placed (sought .size) (now (bag .entry)) (replicasMost * sought .count)
+pub fn find_copies(roster: &[u8], items: &[u8], wanted: &[u8], sought: Sought, rows: &mut [usize])
+    requires { ⌜ Searched (now roster) (now items) (now wanted) sought (length (now rows)) ⌝ }
+    ensures copies { λ _. ⌜ CopiesFound (now (roster .entry)) (now (items .entry)) (now (wanted .entry))
+        sought (now (rows .exit)) ⌝ }
+    ensures placed { λ _. ⌜ Placed (sought .size) (now (items .entry)) (replicasMost * sought .count)
         (now (rows .exit)) ⌝ }
     ensures room { λ _. ⌜ length (now (rows .exit)) ≡ length (now (rows .entry)) ⌝ }
 {
     let count = sought.count;
     clear(rows, REPLICAS_MOST * count);
     let mut at = 0;
-    while at < bag.len() {
-        let ItemReading::Read(item) = assembly_items::read(bag, at, sought.width, sought.size)
+    while at < items.len() {
+        let ItemReading::Read(item) = assembly_items::read(items, at, sought.width, sought.size)
         else {
             return;
         };
         at = item.next;
-        if alike(roster, bag, wanted, sought, item) {
-            offer(roster, bag, wanted, sought, item, rows);
+        if alike(roster, items, wanted, sought, item) {
+            offer(roster, items, wanted, sought, item, rows);
         }
     }
 }

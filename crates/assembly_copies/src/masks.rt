@@ -9,7 +9,7 @@ ghost use Rattle.assembly_copies.specs.Rows.{replicasMost, copiesAt};
 // The signers of the first n places: bit k is a one where place k is not 0.
 pub fn mask_of(places: &[usize], n: usize) -> u16
     requires { ⌜ (n ≤ replicasMost) × (n ≤ length (now places)) ⌝ }
-    ensures { λ r. ⌜ ((S : ℕ) (bag : List ℕ) → r ≡ signersOf (copiesAt S bag n (now (places .entry)))) ⌝ }
+    ensures { λ r. ⌜ ((S : ℕ) (items : List ℕ) → r ≡ signersOf (copiesAt S items n (now (places .entry)))) ⌝ }
 {
     let mut mask = 0;
     let mut k = n;

@@ -19,19 +19,19 @@ statementMost = 1 + nameSize + ballotMost
 
 -- the item at a place, or a refusal where its kind is none or the bag ends inside it
 unfoldable pub itemReading : ℕ → ℕ → List ℕ → ℕ → ItemReading
-itemReading w S bag at =
-    let size = statementSize w (getD bag (at + 2) 0) in
+itemReading w S itemBytes at =
+    let size = statementSize w (getD itemBytes (at + 2) 0) in
     let signature = at + 2 + size in
     let next = signature + S in
     let item : ItemPlace =
-    record { replica = numberAt 2 bag at; statement = at + 2; signature = signature; next = next } in
-    cond (all (ltb 0 size ∷ leb next (length bag) ∷ [])) (Read item) Refused
+    record { replica = numberAt 2 itemBytes at; statement = at + 2; signature = signature; next = next } in
+    cond (all (ltb 0 size ∷ leb next (length itemBytes) ∷ [])) (Read item) Refused
 
 -- what the item says
 unfoldable pub itemOf : List ℕ → ItemPlace → Item
-itemOf bag i =
+itemOf itemBytes i =
     record {
       replica = i .replica;
-      statement = take (i .signature - i .statement) (drop (i .statement) bag);
-      signature = take (i .next - i .signature) (drop (i .signature) bag);
+      statement = take (i .signature - i .statement) (drop (i .statement) itemBytes);
+      signature = take (i .next - i .signature) (drop (i .signature) itemBytes);
     }

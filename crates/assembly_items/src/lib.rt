@@ -40,16 +40,16 @@ fn statement_size(width: usize, kind: u8) -> usize
 }
 
 // The item at a place.
-pub fn read(bag: &[u8], at: usize, width: usize, size: usize) -> ItemReading
-    requires { ⌜ (at ≤ length (now bag)) × (width ≤ widthMost) × (size ≤ signatureMost) ⌝ }
-    ensures { λ r. ⌜ r ≡ itemReading width size (now (bag .entry)) at ⌝ }
+pub fn read(items: &[u8], at: usize, width: usize, size: usize) -> ItemReading
+    requires { ⌜ (at ≤ length (now items)) × (width ≤ widthMost) × (size ≤ signatureMost) ⌝ }
+    ensures { λ r. ⌜ r ≡ itemReading width size (now (items .entry)) at ⌝ }
 {
-    let left = bag.len() - at;
+    let left = items.len() - at;
     if left <= STATEMENT_AT {
         return ItemReading::Refused;
     }
     let statement = at + STATEMENT_AT;
-    let bytes = statement_size(width, bag[statement]);
+    let bytes = statement_size(width, items[statement]);
     if bytes == 0 {
         return ItemReading::Refused;
     }
@@ -58,7 +58,7 @@ pub fn read(bag: &[u8], at: usize, width: usize, size: usize) -> ItemReading
     }
     let signature = statement + bytes;
     ItemReading::Read(ItemPlace {
-        replica: words::u16_at(bag, at),
+        replica: words::u16_at(items, at),
         statement: statement,
         signature: signature,
         next: signature + size,
@@ -66,13 +66,13 @@ pub fn read(bag: &[u8], at: usize, width: usize, size: usize) -> ItemReading
 }
 
 // 19: whether every kind byte is 1, 2 or 3, and the bag does not end inside an item.
-pub fn items_whole(bag: &[u8], width: usize, size: usize) -> bool
+pub fn items_whole(items: &[u8], width: usize, size: usize) -> bool
     requires { ⌜ (width ≤ widthMost) × (size ≤ signatureMost) ⌝ }
-    ensures { λ r. ⌜ r ≡ paper.whole width size (now (bag .entry)) ⌝ }
+    ensures { λ r. ⌜ r ≡ paper.whole width size (now (items .entry)) ⌝ }
 {
     let mut at = 0;
-    while at < bag.len() {
-        let ItemReading::Read(item) = read(bag, at, width, size) else {
+    while at < items.len() {
+        let ItemReading::Read(item) = read(items, at, width, size) else {
             return false;
         };
         at = item.next;

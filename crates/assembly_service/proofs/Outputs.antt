@@ -27,42 +27,42 @@ unfolding planOf formOf version1
 plan-given roster log size n each leaders s k e =
     λ i. record { width = 4; size = s i; replicas = k i; records = length log / e i; leaders = leaders }
 
-module _ (roster log bag output : List ℕ) (ok : Checked roster log bag) (votes taken : List ℕ) (r : Leaders)
-    (rows : RowsTaken roster log bag votes taken r) where
+module _ (roster log itemBytes output : List ℕ) (ok : Checked roster log itemBytes) (votes taken : List ℕ) (r : Leaders)
+    (rows : RowsTaken roster log itemBytes votes taken r) where
   pub missing-answers : {number size : ℕ} → r ≡ Missing → (number ≡ 20) × (size ≡ 0)
-      → (number ≡ assembleNumber roster log bag output)
-      × ((size ≡ assembleLength roster log bag output) × (output ≡ outputAfter roster log bag output))
+      → (number ≡ assembleNumber roster log itemBytes output)
+      × ((size ≡ assembleLength roster log itemBytes output) × (output ≡ outputAfter roster log itemBytes output))
   unfolding bytesIf
   missing-answers e given =
-      let made : assembled roster log bag ≡ none = rows .same ∙ ap (bytesIf roster log bag taken) e in
-      refusal-answers roster log bag output given (output-decides roster log bag output ok (sym (none-led roster log bag output made))) (λ z. omega (arith, z))
+      let made : assembled roster log itemBytes ≡ none = rows .same ∙ ap (bytesIf roster log itemBytes taken) e in
+      refusal-answers roster log itemBytes output given (output-decides roster log itemBytes output ok (sym (none-led roster log itemBytes output made))) (λ z. omega (arith, z))
 
   module _ (leaders : ℕ) (plan : Plan) (e : r ≡ All leaders) (p : plan ≡ planOf roster log leaders) where
-    pub plan-held : Planned roster log bag votes plan taken
+    pub plan-held : Planned roster log itemBytes votes plan taken
     unfolding PlannedIf
-    plan-held = subst (λ q. Planned roster log bag votes q taken) (sym p) (subst (PlannedIf roster log bag votes taken) e (rows .planned))
+    plan-held = subst (λ q. Planned roster log itemBytes votes q taken) (sym p) (subst (PlannedIf roster log itemBytes votes taken) e (rows .planned))
 
-    made : assembled roster log bag ≡ some (bytesTaken roster log bag plan taken)
+    made : assembled roster log itemBytes ≡ some (bytesTaken roster log itemBytes plan taken)
     unfolding bytesIf
-    made = rows .same ∙ ap (bytesIf roster log bag taken) e ∙ ap (λ q. some (bytesTaken roster log bag q taken)) (sym p)
+    made = rows .same ∙ ap (bytesIf roster log itemBytes taken) e ∙ ap (λ q. some (bytesTaken roster log itemBytes q taken)) (sym p)
 
-    pub short-answers : {number size total : ℕ} → total ≡ length (bytesTaken roster log bag plan taken) → length output < total
+    pub short-answers : {number size total : ℕ} → total ≡ length (bytesTaken roster log itemBytes plan taken) → length output < total
         → (number ≡ 21) × (size ≡ 0)
-        → (number ≡ assembleNumber roster log bag output)
-        × ((size ≡ assembleLength roster log bag output) × (output ≡ outputAfter roster log bag output))
+        → (number ≡ assembleNumber roster log itemBytes output)
+        × ((size ≡ assembleLength roster log itemBytes output) × (output ≡ outputAfter roster log itemBytes output))
     short-answers t h given =
-        refusal-answers roster log bag output given
-        (output-decides roster log bag output ok (sym (output-short roster log bag output _ made (omega (arith, t, h))))) (λ z. omega (arith, z))
+        refusal-answers roster log itemBytes output given
+        (output-decides roster log itemBytes output ok (sym (output-short roster log itemBytes output _ made (omega (arith, t, h))))) (λ z. omega (arith, z))
 
-    pub written-answers : {size total : ℕ} {after : List ℕ} → total ≡ length (bytesTaken roster log bag plan taken) → total ≤ length output
-        → size ≡ length (bytesTaken roster log bag plan taken) → after ≡ over (bytesTaken roster log bag plan taken) output
-        → (0 ≡ assembleNumber roster log bag output)
-        × ((size ≡ assembleLength roster log bag output) × (after ≡ outputAfter roster log bag output))
+    pub written-answers : {size total : ℕ} {after : List ℕ} → total ≡ length (bytesTaken roster log itemBytes plan taken) → total ≤ length output
+        → size ≡ length (bytesTaken roster log itemBytes plan taken) → after ≡ over (bytesTaken roster log itemBytes plan taken) output
+        → (0 ≡ assembleNumber roster log itemBytes output)
+        × ((size ≡ assembleLength roster log itemBytes output) × (after ≡ outputAfter roster log itemBytes output))
     written-answers t h size after =
-        let zero = output-decides roster log bag output ok (sym (output-enough roster log bag output _ made (omega (arith, t, h)))) in (
+        let zero = output-decides roster log itemBytes output ok (sym (output-enough roster log itemBytes output _ made (omega (arith, t, h)))) in (
           zero,
           (
-            size ∙ sym (accepted-length roster log bag output _ (sym zero) made),
-            after ∙ sym (accepted-output roster log bag output _ (sym zero) made),
+            size ∙ sym (accepted-length roster log itemBytes output _ (sym zero) made),
+            after ∙ sym (accepted-output roster log itemBytes output _ (sym zero) made),
           ),
         )

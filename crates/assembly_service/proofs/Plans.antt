@@ -35,7 +35,7 @@ kept-at t u a j h e = sym (getD-take a t j 0 h) ∙ ap (λ l. getD l j 0) e ∙ 
 row-inside : (t k count : ℕ) → t < count → k < takenSize → takenSize * t + k < takenSize * count
 row-inside t k count h g = omega (arith, h, g)
 
-module _ (roster log bag : List ℕ) (ok : Checked roster log bag) where
+module _ (roster log itemBytes : List ℕ) (ok : Checked roster log itemBytes) where
   abbrev w : ℕ
   w = formOf roster .termBytes
 
@@ -64,13 +64,13 @@ module _ (roster log bag : List ℕ) (ok : Checked roster log bag) where
   module _ (votes chosen taken : List ℕ) (count : ℕ) (terms : count ≡ length (runs (recordsGiven roster log)))
       (tabled : VotesIn (formOf roster) 1 (runs (recordsGiven roster log)) votes)
       (room : takenSize * (leaderMost + 1) ≤ length taken)
-      (held : RowsHeld (signatureSize roster) bag (replicas roster) count chosen)
+      (held : RowsHeld (signatureSize roster) itemBytes (replicas roster) count chosen)
       (kept : take (takenSize * count) taken ≡ take (takenSize * count) chosen)
-      (row : CommitRowHeld (signatureSize roster) bag records (drop (takenSize * count) taken)) where
+      (row : CommitRowHeld (signatureSize roster) itemBytes records (drop (takenSize * count) taken)) where
     few : count ≤ leaderMost
     few = rw terms few-terms
 
-    places : (t k : ℕ) → t ≤ count → 0 < k → k < takenSize → getD taken (takenSize * t + k) 0 ≤ length bag - signatureSize roster
+    places : (t k : ℕ) → t ≤ count → 0 < k → k < takenSize → getD taken (takenSize * t + k) 0 ≤ length itemBytes - signatureSize roster
     places t k h low high =
         ⊎-elim
         (λ (y : ltb t count ≡ true).
@@ -81,7 +81,7 @@ module _ (roster log bag : List ℕ) (ok : Checked roster log bag) where
         rw (last, ← getD-drop (takenSize * count) taken k 0) (row .places k low high))
         (look (ltb t count))
 
-    pub planned : Planned roster log bag votes (planOf roster log count) taken
+    pub planned : Planned roster log itemBytes votes (planOf roster log count) taken
     unfolding planOf formOf version1 logOf
     planned =
         let s = sizes roster (ok .fine) in

@@ -26,10 +26,10 @@ take-alike t u a b e =
     let inside : a ≤ a + b = omega arith in
     sym (take-take a (a + b) t inside) ∙ ap (take a) e ∙ take-take a (a + b) u inside
 
-module _ (S : ℕ) (bag : List ℕ) where
+module _ (S : ℕ) (itemBytes : List ℕ) where
   -- the leaders hang on their own rows alone
   pub leads-kept : (form : Form) (n : ℕ) (rs : List Run) (t u : List ℕ) → takenSize * length rs ≤ length t → takenSize * length rs ≤ length u
-      → take (takenSize * length rs) t ≡ take (takenSize * length rs) u → leadsIn S bag form n t rs ≡ leadsIn S bag form n u rs
+      → take (takenSize * length rs) t ≡ take (takenSize * length rs) u → leadsIn S itemBytes form n t rs ≡ leadsIn S itemBytes form n u rs
   unfolding leadsIn
   leads-kept form n [] t u ht hu e = refl
   leads-kept form n (r ∷ rs) t u ht hu e =
@@ -39,10 +39,10 @@ module _ (S : ℕ) (bag : List ℕ) where
       let later = drop-alike t u takenSize (takenSize * length rs) (omega (arith, ht)) (omega (arith, hu)) e′ in
       let rest =
       leads-kept form n rs (drop takenSize t) (drop takenSize u) (rw length-drop (omega (arith, ht))) (rw length-drop (omega (arith, hu))) later in
-      λ i. leadIn S bag form n (row i) r ∷ rest i
+      λ i. leadIn S itemBytes form n (row i) r ∷ rest i
 
   -- and the commit on its own
-  pub commit-kept : (n : ℕ) (row rest : List ℕ) → n ≤ replicasMost → length row ≡ takenSize → commitIn S bag n (row ++ rest) ≡ commitIn S bag n row
+  pub commit-kept : (n : ℕ) (row rest : List ℕ) → n ≤ replicasMost → length row ≡ takenSize → commitIn S itemBytes n (row ++ rest) ≡ commitIn S itemBytes n row
   unfolding commitIn copiesAt
   commit-kept n row rest few size =
       let index : getD (row ++ rest) 0 0 ≡ getD row 0 0 = List·getD-append row rest 0 0 (omega (arith, size)) in
@@ -60,15 +60,15 @@ module _ (t row : List ℕ) (at k : ℕ) (inside : at ≤ length t) where
   row-from : drop at (putMid at k t row) ≡ row ++ drop k (drop at t)
   row-from = drop-at (take at t) (row ++ drop k (drop at t)) at (length-take-le at t inside)
 
-  pub commit-put : (roster log bag : List ℕ) (w : LogSizes) → replicas roster ≤ replicasMost → length row ≡ takenSize
-      → CommitFound roster log bag w row → CommitFound roster log bag w (drop at (putMid at k t row))
+  pub commit-put : (roster log itemBytes : List ℕ) (w : LogSizes) → replicas roster ≤ replicasMost → length row ≡ takenSize
+      → CommitFound roster log itemBytes w row → CommitFound roster log itemBytes w (drop at (putMid at k t row))
   unfolding CommitFound
-  commit-put roster log bag w few size found =
-      found ∙ sym (ap (commitIn (w .size) bag (replicas roster)) row-from ∙ commit-kept (w .size) bag (replicas roster) row (drop k (drop at t)) few size)
+  commit-put roster log itemBytes w few size found =
+      found ∙ sym (ap (commitIn (w .size) itemBytes (replicas roster)) row-from ∙ commit-kept (w .size) itemBytes (replicas roster) row (drop k (drop at t)) few size)
 
-  pub held-put : (S : ℕ) (bag : List ℕ) (records : ℕ) → length row ≡ takenSize → CommitRowHeld S bag records row
-      → CommitRowHeld S bag records (drop at (putMid at k t row))
-  held-put S bag records size held =
+  pub held-put : (S : ℕ) (itemBytes : List ℕ) (records : ℕ) → length row ≡ takenSize → CommitRowHeld S itemBytes records row
+      → CommitRowHeld S itemBytes records (drop at (putMid at k t row))
+  held-put S itemBytes records size held =
       let same : (j : ℕ) → j < takenSize → getD (drop at (putMid at k t row)) j 0 ≡ getD row j 0 =
       λ j h. ap (λ l. getD l j 0) row-from ∙ List·getD-append row (drop k (drop at t)) 0 j (omega (arith, h, size)) in
       record {

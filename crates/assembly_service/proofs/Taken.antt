@@ -27,7 +27,7 @@ use Rattle.assembly_service.proofs.Views.{all-taken}
 use Rattle.assembly_service.proofs.Rows.{leads-kept}
 use Rattle.assembly_service.proofs.Plans.{planned, few-terms}
 
-module _ (roster log bag : List ℕ) (ok : Checked roster log bag) where
+module _ (roster log itemBytes : List ℕ) (ok : Checked roster log itemBytes) where
   abbrev S : ℕ
   S = signatureSize roster
 
@@ -39,56 +39,56 @@ module _ (roster log bag : List ℕ) (ok : Checked roster log bag) where
 
   module _ (votes stamps chosen : List ℕ) (count : ℕ) (terms : count ≡ length rs)
       (voted : VotesIn (withTerms 4 (cluster roster)) 0 rs votes) (stamped : StampsIn (withTerms 4 (cluster roster)) rs stamps) where
-    pub taken-missing : (after taken : List ℕ) → LeadersChosen roster bag votes stamps (record { width = 4; size = S; count = count }) false chosen
-        → RowsTaken roster log bag after taken Missing
+    pub taken-missing : (after taken : List ℕ) → LeadersChosen roster itemBytes votes stamps (record { width = 4; size = S; count = count }) false chosen
+        → RowsTaken roster log itemBytes after taken Missing
     unfolding LeadersChosen bytesIf PlannedIf formOf version1 logOf
     taken-missing after taken leaders =
-        record { same = not-all-led roster log bag (leaders rs (sym terms) voted stamped); planned = tt }
+        record { same = not-all-led roster log itemBytes (leaders rs (sym terms) voted stamped); planned = tt }
 
     module _ (after taken : List ℕ) (left : VotesIn (withTerms 4 (cluster roster)) 1 rs after)
-        (held : RowsHeld S bag (replicas roster) count chosen)
+        (held : RowsHeld S itemBytes (replicas roster) count chosen)
         (kept : take (takenSize * count) taken ≡ take (takenSize * count) chosen)
         (size : length taken ≡ length chosen) (room : takenSize * (leaderMost + 1) ≤ length chosen)
-        (commit : CommitFound roster log bag (record { width = 4; size = S; records = records }) (drop (takenSize * count) taken))
-        (row : CommitRowHeld S bag records (drop (takenSize * count) taken)) where
-      pub taken-all : LeadersChosen roster bag votes stamps (record { width = 4; size = S; count = count }) true chosen
-          → RowsTaken roster log bag after taken (All count)
+        (commit : CommitFound roster log itemBytes (record { width = 4; size = S; records = records }) (drop (takenSize * count) taken))
+        (row : CommitRowHeld S itemBytes records (drop (takenSize * count) taken)) where
+      pub taken-all : LeadersChosen roster itemBytes votes stamps (record { width = 4; size = S; count = count }) true chosen
+          → RowsTaken roster log itemBytes after taken (All count)
       unfolding LeadersChosen CommitFound bytesIf PlannedIf formOf version1 logOf
       taken-all leaders =
-          let few : count ≤ leaderMost = rw terms (few-terms roster log bag ok) in
+          let few : count ≤ leaderMost = rw terms (few-terms roster log itemBytes ok) in
           let roomy : takenSize * length rs ≤ length chosen = omega (arith, terms, few, room) in
           let roomy′ : takenSize * length rs ≤ length taken = rw size roomy in
           let kept′ : take (takenSize * length rs) chosen ≡ take (takenSize * length rs) taken = sym (ap (λ n. take (takenSize * n) taken) (sym terms) ∙ kept ∙ ap (λ n. take (takenSize * n) chosen) terms) in
           let lead = leaders rs (sym terms) voted stamped
-          ∙ ap some (leads-kept S bag (withTerms 4 (cluster roster)) (replicas roster) rs chosen taken roomy roomy′ kept′) in
+          ∙ ap some (leads-kept S itemBytes (withTerms 4 (cluster roster)) (replicas roster) rs chosen taken roomy roomy′ kept′) in
           let long : length (recordsOf 4 records log) ≡ records = length-records 4 records log in
-          let commit′ = ap (λ n. commitTo (withTerms 4 (cluster roster)) roster (itemsOf 4 S bag) n (recordsOf 4 records log)) long ∙ commit in
+          let commit′ = ap (λ n. commitTo (withTerms 4 (cluster roster)) roster (itemsOf 4 S itemBytes) n (recordsOf 4 records log)) long ∙ commit in
           record {
-            same = all-taken roster log bag taken count lead commit′;
-            planned = planned roster log bag ok after chosen taken count terms left (rw size room) held kept row;
+            same = all-taken roster log itemBytes taken count lead commit′;
+            planned = planned roster log itemBytes ok after chosen taken count terms left (rw size room) held kept row;
           }
 
 -- ---- the same, for sizes as the code has them
 
-module _ (roster log bag : List ℕ) (ok : Checked roster log bag) (size each : ℕ) (size-is : size ≡ signatureSize roster)
+module _ (roster log itemBytes : List ℕ) (ok : Checked roster log itemBytes) (size each : ℕ) (size-is : size ≡ signatureSize roster)
     (each-is : each ≡ recordSize 4) where
   abbrev terms-given : List Run
   terms-given = runs (recordsOf 4 (length log / each) log)
 
   module _ (votes stamps chosen : List ℕ) (count : ℕ) (found : Bool) (terms : count ≡ length terms-given)
       (voted : VotesIn (withTerms 4 (cluster roster)) 0 terms-given votes) (stamped : StampsIn (withTerms 4 (cluster roster)) terms-given stamps)
-      (leaders : LeadersChosen roster bag votes stamps (record { width = 4; size = size; count = count }) found chosen) where
-    pub missing-given : found ≡ false → (after taken : List ℕ) → RowsTaken roster log bag after taken Missing
+      (leaders : LeadersChosen roster itemBytes votes stamps (record { width = 4; size = size; count = count }) found chosen) where
+    pub missing-given : found ≡ false → (after taken : List ℕ) → RowsTaken roster log itemBytes after taken Missing
     missing-given f after taken =
-        taken-missing roster log bag ok votes stamps chosen count (rw each-is at terms) (rw each-is at voted) (rw each-is at stamped) after taken
+        taken-missing roster log itemBytes ok votes stamps chosen count (rw each-is at terms) (rw each-is at voted) (rw each-is at stamped) after taken
         (rw (size-is, f) at leaders)
 
     pub all-given : found ≡ true → (after taken : List ℕ) → VotesIn (withTerms 4 (cluster roster)) 1 terms-given after
-        → RowsHeld size bag (replicas roster) count chosen → take (takenSize * count) taken ≡ take (takenSize * count) chosen
+        → RowsHeld size itemBytes (replicas roster) count chosen → take (takenSize * count) taken ≡ take (takenSize * count) chosen
         → length taken ≡ length chosen → takenSize * (leaderMost + 1) ≤ length chosen
-        → CommitFound roster log bag (record { width = 4; size = size; records = length log / each }) (drop (takenSize * count) taken)
-        → CommitRowHeld size bag (length log / each) (drop (takenSize * count) taken) → RowsTaken roster log bag after taken (All count)
+        → CommitFound roster log itemBytes (record { width = 4; size = size; records = length log / each }) (drop (takenSize * count) taken)
+        → CommitRowHeld size itemBytes (length log / each) (drop (takenSize * count) taken) → RowsTaken roster log itemBytes after taken (All count)
     all-given f after taken left held kept long room commit row =
-        taken-all roster log bag ok votes stamps chosen count (rw each-is at terms) (rw each-is at voted) (rw each-is at stamped) after taken
+        taken-all roster log itemBytes ok votes stamps chosen count (rw each-is at terms) (rw each-is at voted) (rw each-is at stamped) after taken
         (rw each-is at left) (rw size-is at held) kept long room (rw (size-is, each-is) at commit) (rw (size-is, each-is) at row)
         (rw (size-is, f) at leaders)

@@ -17,18 +17,18 @@ use Rattle.assembly_copies.specs.Rows.{takenSize, leadsIn, commitIn}
 use Rattle.assembly_writer.specs.Written.{viewTaken, bytesTaken}
 use Rattle.assembly_service.specs.Taken.{planOf}
 
-module _ (roster log bag : List ℕ) where
+module _ (roster log itemBytes : List ℕ) where
   -- every term has one: the rows' bytes
   pub all-taken : (taken : List ℕ) (count : ℕ)
-      → leadsFor (formOf roster) roster (itemsGiven roster bag) (runs (recordsGiven roster log))
-      ≡ some (leadsIn (signatureSize roster) bag (formOf roster) (replicas roster) taken (runs (recordsGiven roster log)))
-      → commitTo (formOf roster) roster (itemsGiven roster bag) (length (recordsGiven roster log)) (recordsGiven roster log)
-      ≡ commitIn (signatureSize roster) bag (replicas roster) (drop (takenSize * count) taken)
-      → assembled roster log bag ≡ some (bytesTaken roster log bag (planOf roster log count) taken)
+      → leadsFor (formOf roster) roster (itemsGiven roster itemBytes) (runs (recordsGiven roster log))
+      ≡ some (leadsIn (signatureSize roster) itemBytes (formOf roster) (replicas roster) taken (runs (recordsGiven roster log)))
+      → commitTo (formOf roster) roster (itemsGiven roster itemBytes) (length (recordsGiven roster log)) (recordsGiven roster log)
+      ≡ commitIn (signatureSize roster) itemBytes (replicas roster) (drop (takenSize * count) taken)
+      → assembled roster log itemBytes ≡ some (bytesTaken roster log itemBytes (planOf roster log count) taken)
   unfolding assembled assembledView viewWith bytesTaken viewTaken planOf formOf version1 logOf
   all-taken taken count leaders commit =
-      let ls = leadsIn (signatureSize roster) bag (formOf roster) (replicas roster) taken (runs (recordsGiven roster log)) in
-      all-led roster log bag ls leaders
+      let ls = leadsIn (signatureSize roster) itemBytes (formOf roster) (replicas roster) taken (runs (recordsGiven roster log)) in
+      all-led roster log itemBytes ls leaders
       ∙ (λ i. some (encode (signatureSize roster) (formOf roster) 1 (record {
         log = recordsGiven roster log;
         leaders = map (λ l. l .certificate) ls;

@@ -19,11 +19,11 @@ use Rattle.assembly_service.specs.declared.Leaders.the-variants.{All, Mi
 -- ---- the checks
 
 -- 2 to 4, 8, 11 and 19 are met
-pub record Checked (roster log bag : List ℕ) : Type 0 where
+pub record Checked (roster log itemBytes : List ℕ) : Type 0 where
   pub fine : rosterNumber roster ≡ 0
   pub counts : logCounted (formOf roster .termBytes) log ≡ true
   pub order : rising 1 (recordsGiven roster log) ≡ true
-  pub items : whole (formOf roster .termBytes) (signatureSize roster) bag ≡ true
+  pub items : whole (formOf roster .termBytes) (signatureSize roster) itemBytes ≡ true
 
 -- ---- the rows
 
@@ -40,16 +40,17 @@ planOf roster log leaders =
 
 -- the bytes of the rows, if every term has a leader
 unfoldable pub bytesIf : List ℕ → List ℕ → List ℕ → List ℕ → Leaders → Option (List ℕ)
-bytesIf roster log bag taken (All count) = some (bytesTaken roster log bag (planOf roster log count) taken)
-bytesIf roster log bag taken Missing = none
+bytesIf roster log itemBytes taken (All count) =
+    some (bytesTaken roster log itemBytes (planOf roster log count) taken)
+bytesIf roster log itemBytes taken Missing = none
 
 -- and they can be written
 unfoldable pub PlannedIf : List ℕ → List ℕ → List ℕ → List ℕ → List ℕ → Leaders → Type 0
-PlannedIf roster log bag votes taken (All count) =
-    Planned roster log bag votes (planOf roster log count) taken
-PlannedIf roster log bag votes taken Missing = Unit {0}
+PlannedIf roster log itemBytes votes taken (All count) =
+    Planned roster log itemBytes votes (planOf roster log count) taken
+PlannedIf roster log itemBytes votes taken Missing = Unit {0}
 
 -- they are what is assembled
-pub record RowsTaken (roster log bag votes taken : List ℕ) (r : Leaders) : Type 0 where
-  pub same : assembled roster log bag ≡ bytesIf roster log bag taken r
-  pub planned : PlannedIf roster log bag votes taken r
+pub record RowsTaken (roster log itemBytes votes taken : List ℕ) (r : Leaders) : Type 0 where
+  pub same : assembled roster log itemBytes ≡ bytesIf roster log itemBytes taken r
+  pub planned : PlannedIf roster log itemBytes votes taken r

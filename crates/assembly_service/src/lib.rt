@@ -58,12 +58,12 @@ fn log_counted(log: &[u8], width: usize) -> bool
 }
 
 // 8, 11 and 19.
-fn input_number(log: &[u8], bag: &[u8], width: usize, size: usize) -> u32
+fn input_number(log: &[u8], items: &[u8], width: usize, size: usize) -> u32
     requires { ⌜ (width ≤ widthMost) × (size ≤ signatureMost) ⌝ }
     ensures { λ r. ⌜ r
         ≡ refusal (check 8 (paper.logCounted width (now (log .entry)))
         ∷ check 11 (rising 1 (paper.logOf width (now (log .entry))))
-        ∷ check 19 (whole width size (now (bag .entry))) ∷ []) ⌝ }
+        ∷ check 19 (whole width size (now (items .entry))) ∷ []) ⌝ }
 {
     if !log_counted(log, width) {
         return 8;
@@ -72,7 +72,7 @@ fn input_number(log: &[u8], bag: &[u8], width: usize, size: usize) -> u32
     if !log_terms::terms_in_order(log, width, records) {
         return 11;
     }
-    if !assembly_items::items_whole(bag, width, size) {
+    if !assembly_items::items_whole(items, width, size) {
         return 19;
     }
     0
@@ -82,39 +82,39 @@ fn input_number(log: &[u8], bag: &[u8], width: usize, size: usize) -> u32
 fn take_commit(
     roster: &[u8],
     log: &[u8],
-    bag: &[u8],
+    items: &[u8],
     widths: LogSizes,
     taken: &mut [usize],
     at: usize,
 )
-    requires { ⌜ Receivable (now roster) (now log) (now bag) widths
+    requires { ⌜ Receivable (now roster) (now log) (now items) widths
         × (at + takenSize ≤ length (now taken)) ⌝ }
     ensures kept { λ _. ⌜ take at (now (taken .exit)) ≡ take at (now (taken .entry)) ⌝ }
-    ensures commit { λ _. ⌜ CommitFound (now (roster .entry)) (now (log .entry)) (now (bag .entry)) widths
+    ensures commit { λ _. ⌜ CommitFound (now (roster .entry)) (now (log .entry)) (now (items .entry)) widths
         (drop at (now (taken .exit))) ⌝ }
-    ensures held { λ _. ⌜ CommitRowHeld (widths .size) (now (bag .entry)) (widths .records)
+    ensures held { λ _. ⌜ CommitRowHeld (widths .size) (now (items .entry)) (widths .records)
         (drop at (now (taken .exit))) ⌝ }
     ensures room { λ _. ⌜ length (now (taken .exit)) ≡ length (now (taken .entry)) ⌝ }
 {
     let end = at + TAKEN_SIZE;
     let row = &mut taken[at..end];
-    assembly_commit::find_commit(roster, log, bag, widths, row);
+    assembly_commit::find_commit(roster, log, items, widths, row);
 }
 
 // Takes what the submission needs from the bag: fills the tables, and puts down the rows.
 fn take_rows(
     roster: &[u8],
     log: &[u8],
-    bag: &[u8],
+    items: &[u8],
     votes: &mut [u8],
     stamps: &mut [u8],
     taken: &mut [usize],
 ) -> Leaders
-    requires { ⌜ Checked (now roster) (now log) (now bag)
+    requires { ⌜ Checked (now roster) (now log) (now items)
         × (votesRoom (formOf (now roster) .termBytes) ≤ length (now votes))
         × (stampsRoom (formOf (now roster) .termBytes) ≤ length (now stamps))
         × (takenSize * (leaderMost + 1) ≤ length (now taken)) ⌝ }
-    ensures { λ r. ⌜ RowsTaken (now (roster .entry)) (now (log .entry)) (now (bag .entry))
+    ensures { λ r. ⌜ RowsTaken (now (roster .entry)) (now (log .entry)) (now (items .entry))
         (now (votes .exit)) (now (taken .exit)) r ⌝ }
 {
     let width = TERM_SIZE;
@@ -122,7 +122,7 @@ fn take_rows(
     let records = log.len() / log_chain::record_size(width);
     let count = assembly_terms::put_wanted(roster, log, width, records, votes, stamps);
     let terms = Terms { width, size, count };
-    if !assembly_choice::choose(roster, bag, votes, stamps, terms, taken) {
+    if !assembly_choice::choose(roster, items, votes, stamps, terms, taken) {
         return Leaders::Missing;
     }
     let widths = LogSizes {
@@ -130,27 +130,27 @@ fn take_rows(
         size,
         records,
     };
-    take_commit(roster, log, bag, widths, taken, TAKEN_SIZE * count);
+    take_commit(roster, log, items, widths, taken, TAKEN_SIZE * count);
     Leaders::All(count)
 }
 
 // Assembles what the checks have let through.
-fn assemble_checked(roster: &[u8], log: &[u8], bag: &[u8], output: &mut [u8]) -> Written
-    requires { ⌜ Checked (now roster) (now log) (now bag) ⌝ }
+fn assemble_checked(roster: &[u8], log: &[u8], items: &[u8], output: &mut [u8]) -> Written
+    requires { ⌜ Checked (now roster) (now log) (now items) ⌝ }
     ensures number { λ r. ⌜ r .number
-        ≡ paper.assembleNumber (now (roster .entry)) (now (log .entry)) (now (bag .entry))
+        ≡ paper.assembleNumber (now (roster .entry)) (now (log .entry)) (now (items .entry))
         (now (output .entry)) ⌝ }
     ensures length { λ r. ⌜ r .length
-        ≡ paper.assembleLength (now (roster .entry)) (now (log .entry)) (now (bag .entry))
+        ≡ paper.assembleLength (now (roster .entry)) (now (log .entry)) (now (items .entry))
         (now (output .entry)) ⌝ }
     ensures bytes { λ _. ⌜ now (output .exit)
-        ≡ paper.outputAfter (now (roster .entry)) (now (log .entry)) (now (bag .entry))
+        ≡ paper.outputAfter (now (roster .entry)) (now (log .entry)) (now (items .entry))
         (now (output .entry)) ⌝ }
 {
     let mut votes = [0u8; VOTES_ROOM];
     let mut stamps = [0u8; STAMPS_ROOM];
     let mut taken = [0usize; TAKEN_ROOM];
-    let Leaders::All(leaders) = take_rows(roster, log, bag, &mut votes, &mut stamps, &mut taken)
+    let Leaders::All(leaders) = take_rows(roster, log, items, &mut votes, &mut stamps, &mut taken)
     else {
         return written::refused(20);
     };
@@ -161,33 +161,33 @@ fn assemble_checked(roster: &[u8], log: &[u8], bag: &[u8], output: &mut [u8]) ->
         records: log.len() / log_chain::record_size(TERM_SIZE),
         leaders: leaders,
     };
-    if output.len() < assembly_writer::written_size(roster, log, bag, &votes, plan, &taken) {
+    if output.len() < assembly_writer::written_size(roster, log, items, &votes, plan, &taken) {
         return written::refused(21);
     }
-    let length = assembly_writer::write(output, roster, log, bag, &votes, plan, &taken);
+    let length = assembly_writer::write(output, roster, log, items, &votes, plan, &taken);
     Written { number: 0, length }
 }
 
 // Assembles a submission: the number, and with number 0 how many bytes of the output were written; a refusal
 // writes nothing.
-pub fn assemble(roster: &[u8], log: &[u8], bag: &[u8], output: &mut [u8]) -> Written
+pub fn assemble(roster: &[u8], log: &[u8], items: &[u8], output: &mut [u8]) -> Written
     ensures number { λ r. ⌜ r .number
-        ≡ paper.assembleNumber (now (roster .entry)) (now (log .entry)) (now (bag .entry))
+        ≡ paper.assembleNumber (now (roster .entry)) (now (log .entry)) (now (items .entry))
         (now (output .entry)) ⌝ }
     ensures length { λ r. ⌜ r .length
-        ≡ paper.assembleLength (now (roster .entry)) (now (log .entry)) (now (bag .entry))
+        ≡ paper.assembleLength (now (roster .entry)) (now (log .entry)) (now (items .entry))
         (now (output .entry)) ⌝ }
     ensures bytes { λ _. ⌜ now (output .exit)
-        ≡ paper.outputAfter (now (roster .entry)) (now (log .entry)) (now (bag .entry))
+        ≡ paper.outputAfter (now (roster .entry)) (now (log .entry)) (now (items .entry))
         (now (output .entry)) ⌝ }
 {
     let refused = roster_checks::validate(roster);
     if refused != 0 {
         return written::refused(refused);
     }
-    let number = input_number(log, bag, TERM_SIZE, roster::signature_size(roster));
+    let number = input_number(log, items, TERM_SIZE, roster::signature_size(roster));
     if number != 0 {
         return written::refused(number);
     }
-    assemble_checked(roster, log, bag, output)
+    assemble_checked(roster, log, items, output)
 }

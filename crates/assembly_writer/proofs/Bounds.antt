@@ -24,26 +24,26 @@ use Rattle.assembly_writer.proofs.Rows.{row-places, commit-row-places}
 
 -- ---- one certificate, one stamp
 
-module _ (S : ℕ) (bag : List ℕ) where
-  pub signed-most : (n : ℕ) (places : List ℕ) → PlacesHeld S bag n places → length (signedAt S bag n places) ≤ 17390
+module _ (S : ℕ) (itemBytes : List ℕ) where
+  pub signed-most : (n : ℕ) (places : List ℕ) → PlacesHeld S itemBytes n places → length (signedAt S itemBytes n places) ≤ 17390
   signed-most n places held =
-      let m = ones (signersOf (copiesAt S bag n places)) in
-      let few : m ≤ 9 = omega (arith, signers-few S bag n places held, held .few) in
+      let m = ones (signersOf (copiesAt S itemBytes n places)) in
+      let few : m ≤ 9 = omega (arith, signers-few S itemBytes n places held, held .few) in
       let most : S * m ≤ S * 9 = mul-le-mul-left S few in
-      omega (arith, signed-long S bag n places held, most, held .size)
+      omega (arith, signed-long S itemBytes n places held, most, held .size)
 
-  pub certificate-most : (n : ℕ) (end row : List ℕ) → length end ≤ 52 → PlacesHeld S bag n (drop 2 row) → length (certificateIn S bag n end row) ≤ 17444
+  pub certificate-most : (n : ℕ) (end row : List ℕ) → length end ≤ 52 → PlacesHeld S itemBytes n (drop 2 row) → length (certificateIn S itemBytes n end row) ≤ 17444
   unfolding certificateIn
   certificate-most n end row short held =
       omega (
         arith,
-        length-append (be 2 (getD row 0 0) ++ end) (signedAt S bag n (drop 2 row)),
+        length-append (be 2 (getD row 0 0) ++ end) (signedAt S itemBytes n (drop 2 row)),
         length-append (be 2 (getD row 0 0)) end,
         length-be 2 (getD row 0 0),
         signed-most n (drop 2 row) held,
       )
 
-  pub commit-most : (n : ℕ) (row : List ℕ) → PlacesHeld S bag n (drop 2 row) → length (commitPart S bag n row) ≤ 17394
+  pub commit-most : (n : ℕ) (row : List ℕ) → PlacesHeld S itemBytes n (drop 2 row) → length (commitPart S itemBytes n row) ≤ 17394
   unfolding commitPart
   commit-most n row held =
       ⊎-elim
@@ -52,13 +52,13 @@ module _ (S : ℕ) (bag : List ℕ) where
       rw e
       (omega (
         arith,
-        length-append (be 4 (getD row 0 0)) (signedAt S bag n (drop 2 row)),
+        length-append (be 4 (getD row 0 0)) (signedAt S itemBytes n (drop 2 row)),
         length-be 4 (getD row 0 0),
         signed-most n (drop 2 row) held,
       )))
       (look (eqb (getD row 0 0) 0))
 
-  pub stamp-most : (place : ℕ) → length (signatureAt S bag place) ≤ S
+  pub stamp-most : (place : ℕ) → length (signatureAt S itemBytes place) ≤ S
   unfolding signatureAt copyAt signatureOf
   stamp-most place =
       ⊎-elim
@@ -68,25 +68,25 @@ module _ (S : ℕ) (bag : List ℕ) where
 
 -- ---- all parts
 
-module _ {bag : List ℕ} {p : Plan} {taken : List ℕ} (held : RowsInside bag p taken) (votes : List ℕ) where
-  leader-most : (t : ℕ) → t < p .leaders → length (certificatePart bag p votes taken t) ≤ 17444
+module _ {itemBytes : List ℕ} {p : Plan} {taken : List ℕ} (held : RowsInside itemBytes p taken) (votes : List ℕ) where
+  leader-most : (t : ℕ) → t < p .leaders → length (certificatePart itemBytes p votes taken t) ≤ 17444
   unfolding certificatePart
   leader-most t less =
-      certificate-most (p .size) bag (p .replicas) (voteEndAt (p .width) votes t) (rowAt taken t)
+      certificate-most (p .size) itemBytes (p .replicas) (voteEndAt (p .width) votes t) (rowAt taken t)
       (rw length-take (omega (arith, held .width))) (row-places held t (omega arith))
 
-  leaders-most : length (leadersPart bag p votes taken) ≤ 17444 * p .leaders
-  leaders-most = joined-most (certificatePart bag p votes taken) 17444 (p .leaders) leader-most
+  leaders-most : length (leadersPart itemBytes p votes taken) ≤ 17444 * p .leaders
+  leaders-most = joined-most (certificatePart itemBytes p votes taken) 17444 (p .leaders) leader-most
 
-  stamps-most : length (stampsPart bag p taken) ≤ p .size * p .leaders
+  stamps-most : length (stampsPart itemBytes p taken) ≤ p .size * p .leaders
   stamps-most =
-      joined-most (λ t. signatureAt (p .size) bag (getD taken (takenSize * t + 1) 0)) (p .size) (p .leaders)
-      (λ t less. stamp-most (p .size) bag (getD taken (takenSize * t + 1) 0))
+      joined-most (λ t. signatureAt (p .size) itemBytes (getD taken (takenSize * t + 1) 0)) (p .size) (p .leaders)
+      (λ t less. stamp-most (p .size) itemBytes (getD taken (takenSize * t + 1) 0))
 
   pub parts-small : {long : ℕ} → recordSize (p .width) * p .records ≡ long → p .records ≤ 4096
       → long
-      + (length (leadersPart bag p votes taken)
-      + (length (stampsPart bag p taken) + length (commitPart (p .size) bag (p .replicas) (drop (takenSize * p .leaders) taken))))
+      + (length (leadersPart itemBytes p votes taken)
+      + (length (stampsPart itemBytes p taken) + length (commitPart (p .size) itemBytes (p .replicas) (drop (takenSize * p .leaders) taken))))
       < 4294967296
   unfolding recordSize
   parts-small h few =
@@ -101,5 +101,5 @@ module _ {bag : List ℕ} {p : Plan} {taken : List ℕ} (held : RowsInside bag p
         stamps-most,
         held .few,
         held .size,
-        commit-most (p .size) bag (p .replicas) (drop (takenSize * p .leaders) taken) (commit-row-places held),
+        commit-most (p .size) itemBytes (p .replicas) (drop (takenSize * p .leaders) taken) (commit-row-places held),
       )

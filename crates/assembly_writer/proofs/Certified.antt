@@ -11,15 +11,15 @@ use Rattle.assembly_writer.specs.declared.Plan.{Plan}
 use Rattle.assembly_writer.specs.Parts.{leadersPart, stampsPart, commitPart, certifiedPart}
 use Rattle.assembly_writer.proofs.Lent.{Begun}
 
-module _ (bag votes taken e : List ℕ) (p : Plan) (room : length (certifiedPart bag p votes taken) ≤ length e) where
+module _ (itemBytes votes taken e : List ℕ) (p : Plan) (room : length (certifiedPart itemBytes p votes taken) ≤ length e) where
   abbrev two : List ℕ
-  two = leadersPart bag p votes taken
+  two = leadersPart itemBytes p votes taken
 
   abbrev three : List ℕ
-  three = stampsPart bag p taken
+  three = stampsPart itemBytes p taken
 
   abbrev four : List ℕ
-  four = commitPart (p .size) bag (p .replicas) (drop (takenSize * p .leaders) taken)
+  four = commitPart (p .size) itemBytes (p .replicas) (drop (takenSize * p .leaders) taken)
 
   whole-room : length ((two ++ three) ++ four) ≤ length e
   unfolding certifiedPart

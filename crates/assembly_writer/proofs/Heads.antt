@@ -18,17 +18,17 @@ use Rattle.assembly_writer.proofs.Lent.{over-first, Begun}
 pub number-first : (w x : ℕ) (e : List ℕ) → w ≤ length e → sets e 0 (be w x) ≡ over (be w x) e
 number-first w x e h = over-first e (be w x) (omega (arith, length-be w x))
 
-module _ (S : ℕ) (bag : List ℕ) (n : ℕ) (end row e : List ℕ) (room : length (certificateIn S bag n end row) ≤ length e) where
+module _ (S : ℕ) (itemBytes : List ℕ) (n : ℕ) (end row e : List ℕ) (room : length (certificateIn S itemBytes n end row) ≤ length e) where
   abbrev candidate : List ℕ
   candidate = be 2 (getD row 0 0)
 
   pub certificate-head : 2 + length end ≤ length e
   unfolding certificateIn
   certificate-head =
-      omega (arith, room, length-append (candidate ++ end) (signedAt S bag n (drop 2 row)), length-append candidate end, length-be 2 (getD row 0 0))
+      omega (arith, room, length-append (candidate ++ end) (signedAt S itemBytes n (drop 2 row)), length-append candidate end, length-be 2 (getD row 0 0))
 
   pub certificate-begun : {one out : List ℕ} → one ≡ sets e 0 candidate → out ≡ sets one 2 end
-      → Begun (candidate ++ end) (signedAt S bag n (drop 2 row)) e out (2 + length end)
+      → Begun (candidate ++ end) (signedAt S itemBytes n (drop 2 row)) e out (2 + length end)
   unfolding certificateIn
   certificate-begun p q =
       let two = length-be 2 (getD row 0 0) in
@@ -39,9 +39,9 @@ module _ (S : ℕ) (bag : List ℕ) (n : ℕ) (end row e : List ℕ) (room : len
         here = sym (length-append candidate end ∙ ap (λ (k : ℕ). k + length end) two);
       }
 
-module _ (S : ℕ) (bag : List ℕ) (n : ℕ) (row e : List ℕ) where
+module _ (S : ℕ) (itemBytes : List ℕ) (n : ℕ) (row e : List ℕ) where
   -- no commit
-  pub commit-none : getD row 0 0 ≡ 0 → (0 ≡ length (commitPart S bag n row)) × (e ≡ over (commitPart S bag n row) e)
+  pub commit-none : getD row 0 0 ≡ 0 → (0 ≡ length (commitPart S itemBytes n row)) × (e ≡ over (commitPart S itemBytes n row) e)
   unfolding commitPart
   commit-none h = rw (eq-eqb (getD row 0 0) 0 h) (refl, sym (over-nothing e))
 
@@ -49,16 +49,16 @@ module _ (S : ℕ) (bag : List ℕ) (n : ℕ) (row e : List ℕ) where
     abbrev index : List ℕ
     index = be 4 (getD row 0 0)
 
-    pub commit-some : commitPart S bag n row ≡ index ++ signedAt S bag n (drop 2 row)
+    pub commit-some : commitPart S itemBytes n row ≡ index ++ signedAt S itemBytes n (drop 2 row)
     unfolding commitPart
     commit-some = rw (ne-eqb (getD row 0 0) 0 some-index) refl
 
-    module _ (room : length (commitPart S bag n row) ≤ length e) where
+    module _ (room : length (commitPart S itemBytes n row) ≤ length e) where
       pub commit-head : 4 ≤ length e
       commit-head =
-          omega (arith, room, ap length commit-some, length-append index (signedAt S bag n (drop 2 row)), length-be 4 (getD row 0 0))
+          omega (arith, room, ap length commit-some, length-append index (signedAt S itemBytes n (drop 2 row)), length-be 4 (getD row 0 0))
 
-      pub commit-begun : {out : List ℕ} → out ≡ sets e 0 index → Begun index (signedAt S bag n (drop 2 row)) e out 4
+      pub commit-begun : {out : List ℕ} → out ≡ sets e 0 index → Begun index (signedAt S itemBytes n (drop 2 row)) e out 4
       commit-begun p =
           record {
             room = omega (arith, ap length commit-some);

@@ -32,32 +32,32 @@ row-later taken i =
     let next : takenSize + takenSize * i ≡ takenSize * suc i = omega arith in
     ap (take takenSize) (drop-drop (takenSize * i) takenSize taken ∙ ap (λ (k : ℕ). drop k taken) next)
 
-module _ (S : ℕ) (bag : List ℕ) (form : Form) (n : ℕ) where
-  pub leads-count : (taken : List ℕ) (rs : List Run) → length (leadsIn S bag form n taken rs) ≡ length rs
+module _ (S : ℕ) (itemBytes : List ℕ) (form : Form) (n : ℕ) where
+  pub leads-count : (taken : List ℕ) (rs : List Run) → length (leadsIn S itemBytes form n taken rs) ≡ length rs
   unfolding leadsIn
   leads-count taken [] = refl
   leads-count taken (r ∷ rs) = ap suc (leads-count (drop takenSize taken) rs)
 
   lead-at : (taken : List ℕ) (rs : List Run) (d : Lead) (i : ℕ) → i < length rs
-      → getD (leadsIn S bag form n taken rs) i d ≡ leadIn S bag form n (rowAt taken i) (getD rs i (run [] []))
+      → getD (leadsIn S itemBytes form n taken rs) i d ≡ leadIn S itemBytes form n (rowAt taken i) (getD rs i (run [] []))
   unfolding leadsIn
   lead-at taken [] d i h = absurd (omega arith)
   lead-at taken (r ∷ rs) d zero h = refl
   lead-at taken (r ∷ rs) d (suc i) h =
       lead-at (drop takenSize taken) rs d i (omega arith)
-      ∙ ap (λ z. leadIn S bag form n z (getD rs i (run [] []))) (row-later taken i)
+      ∙ ap (λ z. leadIn S itemBytes form n z (getD rs i (run [] []))) (row-later taken i)
 
-  certificate-bytes : (row : List ℕ) (r : Run) → PlacesHeld S bag n (drop 2 row)
-      → certificateBytes S form (leadIn S bag form n row r .certificate) ≡ certificateIn S bag n (voteEnd form r) row
+  certificate-bytes : (row : List ℕ) (r : Run) → PlacesHeld S itemBytes n (drop 2 row)
+      → certificateBytes S form (leadIn S itemBytes form n row r .certificate) ≡ certificateIn S itemBytes n (voteEnd form r) row
   unfolding leadIn certificateBytes certificateIn
-  certificate-bytes row r held = rw (ballot-end form (getD row 0 0) r, signed-part S bag n (drop 2 row) held) refl
+  certificate-bytes row r held = rw (ballot-end form (getD row 0 0) r, signed-part S itemBytes n (drop 2 row) held) refl
 
-  pub commit-bytes : (row : List ℕ) → PlacesHeld S bag n (drop 2 row) → commitBytes S (commitIn S bag n row) ≡ commitPart S bag n row
+  pub commit-bytes : (row : List ℕ) → PlacesHeld S itemBytes n (drop 2 row) → commitBytes S (commitIn S itemBytes n row) ≡ commitPart S itemBytes n row
   unfolding commitIn commitBytes commitPart
   commit-bytes row held =
       ⊎-elim
       (λ (e : eqb (getD row 0 0) 0 ≡ true). rw e refl)
-      (λ (e : eqb (getD row 0 0) 0 ≡ false). rw (e, signed-part S bag n (drop 2 row) held) refl)
+      (λ (e : eqb (getD row 0 0) 0 ≡ false). rw (e, signed-part S itemBytes n (drop 2 row) held) refl)
       (look (eqb (getD row 0 0) 0))
 
 -- ---- all rows
@@ -67,49 +67,49 @@ unfolding flatMap
 map-joined f g [] = refl
 map-joined f g (x ∷ xs) = ap (λ z. f (g x) ++ z) (map-joined f g xs)
 
-module _ (bag votes taken name : List ℕ) (p : Plan) (held : RowsInside bag p taken) (named : length name ≡ nameSize)
+module _ (itemBytes votes taken name : List ℕ) (p : Plan) (held : RowsInside itemBytes p taken) (named : length name ≡ nameSize)
     (rs : List Run) (each : p .leaders ≡ length rs) where
   abbrev form : Form
   form = withTerms (p .width) name
 
   abbrev taken-leads : List Lead
-  taken-leads = leadsIn (p .size) bag form (p .replicas) taken rs
+  taken-leads = leadsIn (p .size) itemBytes form (p .replicas) taken rs
 
   abbrev no-lead : Lead
-  no-lead = leadIn (p .size) bag form (p .replicas) [] (run [] [])
+  no-lead = leadIn (p .size) itemBytes form (p .replicas) [] (run [] [])
 
   leads-joined : (f : Lead → List ℕ) (part : ℕ → List ℕ)
-      → ((i : ℕ) → i < p .leaders → f (leadIn (p .size) bag form (p .replicas) (rowAt taken i) (getD rs i (run [] []))) ≡ part i)
+      → ((i : ℕ) → i < p .leaders → f (leadIn (p .size) itemBytes form (p .replicas) (rowAt taken i) (getD rs i (run [] []))) ≡ part i)
       → flatMap f taken-leads ≡ joined part (p .leaders)
   leads-joined f part h =
-      let count : length taken-leads ≡ p .leaders = leads-count (p .size) bag form (p .replicas) taken rs ∙ sym each in
+      let count : length taken-leads ≡ p .leaders = leads-count (p .size) itemBytes form (p .replicas) taken rs ∙ sym each in
       joined-list f no-lead taken-leads ∙ ap (joined (λ i. f (getD taken-leads i no-lead))) count
       ∙ joined-same (λ i. f (getD taken-leads i no-lead)) part (p .leaders)
-      (λ i less. ap f (lead-at (p .size) bag form (p .replicas) taken rs no-lead i (omega (arith, less, each))) ∙ h i less)
+      (λ i less. ap f (lead-at (p .size) itemBytes form (p .replicas) taken rs no-lead i (omega (arith, less, each))) ∙ h i less)
 
   certificate-at : VotesIn form 1 rs votes → (i : ℕ) → i < p .leaders
-      → certificateBytes (p .size) form (leadIn (p .size) bag form (p .replicas) (rowAt taken i) (getD rs i (run [] [])) .certificate)
-      ≡ certificatePart bag p votes taken i
+      → certificateBytes (p .size) form (leadIn (p .size) itemBytes form (p .replicas) (rowAt taken i) (getD rs i (run [] [])) .certificate)
+      ≡ certificatePart itemBytes p votes taken i
   unfolding certificatePart
   certificate-at tabled i less =
-      certificate-bytes (p .size) bag form (p .replicas) (rowAt taken i) (getD rs i (run [] [])) (row-places held i (omega (arith, less)))
-      ∙ ap (λ z. certificateIn (p .size) bag (p .replicas) z (rowAt taken i))
+      certificate-bytes (p .size) itemBytes form (p .replicas) (rowAt taken i) (getD rs i (run [] [])) (row-places held i (omega (arith, less)))
+      ∙ ap (λ z. certificateIn (p .size) itemBytes (p .replicas) z (rowAt taken i))
       (sym (vote-end form named rs votes i (omega (arith, less, each)) 1 tabled))
 
   pub leaders-bytes : VotesIn form 1 rs votes
-      → leadersBytes (p .size) form (map (λ l. l .certificate) taken-leads) ≡ leadersPart bag p votes taken
+      → leadersBytes (p .size) form (map (λ l. l .certificate) taken-leads) ≡ leadersPart itemBytes p votes taken
   unfolding leadersBytes
   leaders-bytes tabled =
       map-joined (certificateBytes (p .size) form) (λ (l : Lead). l .certificate) taken-leads
-      ∙ leads-joined (λ (l : Lead). certificateBytes (p .size) form (l .certificate)) (certificatePart bag p votes taken) (certificate-at tabled)
+      ∙ leads-joined (λ (l : Lead). certificateBytes (p .size) form (l .certificate)) (certificatePart itemBytes p votes taken) (certificate-at tabled)
 
   stamp-at : (i : ℕ) → i < p .leaders
-      → leadIn (p .size) bag form (p .replicas) (rowAt taken i) (getD rs i (run [] [])) .stamp ≡ signatureAt (p .size) bag (getD taken (takenSize * i + 1) 0)
+      → leadIn (p .size) itemBytes form (p .replicas) (rowAt taken i) (getD rs i (run [] [])) .stamp ≡ signatureAt (p .size) itemBytes (getD taken (takenSize * i + 1) 0)
   unfolding leadIn signatureAt
-  stamp-at i less = ap (λ (k : ℕ). signatureAt (p .size) bag k) (row-cell taken i 1 (omega arith))
+  stamp-at i less = ap (λ (k : ℕ). signatureAt (p .size) itemBytes k) (row-cell taken i 1 (omega arith))
 
-  pub stamps-bytes : stampsBytes (map (λ l. l .stamp) taken-leads) ≡ stampsPart bag p taken
+  pub stamps-bytes : stampsBytes (map (λ l. l .stamp) taken-leads) ≡ stampsPart itemBytes p taken
   unfolding stampsBytes
   stamps-bytes =
       map-joined (λ (g : List ℕ). g) (λ (l : Lead). l .stamp) taken-leads
-      ∙ leads-joined (λ (l : Lead). l .stamp) (λ t. signatureAt (p .size) bag (getD taken (takenSize * t + 1) 0)) stamp-at
+      ∙ leads-joined (λ (l : Lead). l .stamp) (λ t. signatureAt (p .size) itemBytes (getD taken (takenSize * t + 1) 0)) stamp-at

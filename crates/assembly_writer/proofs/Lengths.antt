@@ -23,7 +23,7 @@ use Rattle.assembly_writer.proofs.Rows.{one-inside, row-places}
 
 -- ---- signatures by their number
 
-module _ (S n : ℕ) (places : List ℕ) {mask : ℕ} (signers : (S : ℕ) (bag : List ℕ) → mask ≡ signersOf (copiesAt S bag n places)) where
+module _ (S n : ℕ) (places : List ℕ) {mask : ℕ} (signers : (S : ℕ) (itemBytes : List ℕ) → mask ≡ signersOf (copiesAt S itemBytes n places)) where
   pub ones-few : n ≤ replicasMost → n ≤ length places → ones mask ≤ replicasMost
   ones-few few long = omega (arith, signers-most S [] n places long, ap ones (signers S []))
 
@@ -32,18 +32,18 @@ module _ (S n : ℕ) (places : List ℕ) {mask : ℕ} (signers : (S : ℕ) (bag 
       let most : S * ones mask ≤ S * replicasMost = mul-le-mul-left S (ones-few few long) in
       omega (arith, most, small)
 
-  pub ones-signed : (bag : List ℕ) → PlacesHeld S bag n places → 2 + S * ones mask ≡ length (signedAt S bag n places)
-  ones-signed bag held = ap (λ (m : ℕ). 2 + S * ones m) (signers S bag) ∙ sym (signed-long S bag n places held)
+  pub ones-signed : (itemBytes : List ℕ) → PlacesHeld S itemBytes n places → 2 + S * ones mask ≡ length (signedAt S itemBytes n places)
+  ones-signed itemBytes held = ap (λ (m : ℕ). 2 + S * ones m) (signers S itemBytes) ∙ sym (signed-long S itemBytes n places held)
 
 -- ---- a row
 
-pub certificate-long : (S : ℕ) (bag : List ℕ) (n : ℕ) (end row : List ℕ)
-    → length (certificateIn S bag n end row) ≡ 2 + length end + length (signedAt S bag n (drop 2 row))
+pub certificate-long : (S : ℕ) (itemBytes : List ℕ) (n : ℕ) (end row : List ℕ)
+    → length (certificateIn S itemBytes n end row) ≡ 2 + length end + length (signedAt S itemBytes n (drop 2 row))
 unfolding certificateIn
-certificate-long S bag n end row =
+certificate-long S itemBytes n end row =
     omega (
       arith,
-      length-append (be 2 (getD row 0 0) ++ end) (signedAt S bag n (drop 2 row)),
+      length-append (be 2 (getD row 0 0) ++ end) (signedAt S itemBytes n (drop 2 row)),
       length-append (be 2 (getD row 0 0)) end,
       length-be 2 (getD row 0 0),
     )
@@ -53,17 +53,17 @@ row-cut-long taken t count less h = length-take-le takenSize (drop (takenSize * 
 
 -- ---- all rows
 
-module _ (bag votes taken : List ℕ) (p : Plan) where
+module _ (itemBytes votes taken : List ℕ) (p : Plan) where
   unfoldable pub leadsLength : ℕ → ℕ
   leadsLength t =
-      length (joined (certificatePart bag p votes taken) t)
-      + length (joined (λ j. signatureAt (p .size) bag (getD taken (takenSize * j + 1) 0)) t)
+      length (joined (certificatePart itemBytes p votes taken) t)
+      + length (joined (λ j. signatureAt (p .size) itemBytes (getD taken (takenSize * j + 1) 0)) t)
 
   pub leads-none : 0 ≡ leadsLength 0
   unfolding leadsLength joined
   leads-none = refl
 
-  module _ (held : RowsInside bag p taken) (room : voteHead + voteTail (p .width) * p .leaders ≤ length votes) (t : ℕ) (less : t < p .leaders) where
+  module _ (held : RowsInside itemBytes p taken) (room : voteHead + voteTail (p .width) * p .leaders ≤ length votes) (t : ℕ) (less : t < p .leaders) where
     abbrev row : List ℕ
     row = rowAt taken t
 
@@ -80,15 +80,15 @@ module _ (bag votes taken : List ℕ) (p : Plan) where
 
     -- one row more
     pub leads-next : {at size : ℕ} → at ≡ leadsLength t
-        → (PlacesHeld (p .size) bag (p .replicas) (drop 2 row) → getD row 1 0 ≤ length bag - p .size → length end ≡ voteTail (p .width)
-        → size ≡ length (certificateIn (p .size) bag (p .replicas) end row) + length (signatureAt (p .size) bag (getD row 1 0)))
+        → (PlacesHeld (p .size) itemBytes (p .replicas) (drop 2 row) → getD row 1 0 ≤ length itemBytes - p .size → length end ≡ voteTail (p .width)
+        → size ≡ length (certificateIn (p .size) itemBytes (p .replicas) end row) + length (signatureAt (p .size) itemBytes (getD row 1 0)))
         → at + size ≡ leadsLength (t + 1)
     unfolding leadsLength certificatePart
     leads-next a s =
-        let place : getD row 1 0 ≤ length bag - p .size = rw stamp-cell (held .inside t 1 (omega arith) (omega arith) (omega arith)) in
+        let place : getD row 1 0 ≤ length itemBytes - p .size = rw stamp-cell (held .inside t 1 (omega arith) (omega arith) (omega arith)) in
         let size = s (row-places held t (omega arith)) place vote-end-long in
-        let stamp = ap (λ (k : ℕ). length (signatureAt (p .size) bag k)) stamp-cell in
-        let one = ap length (joined-next (certificatePart bag p votes taken) t) ∙ length-append (joined (certificatePart bag p votes taken) t) _ in
-        let two = ap length (joined-next (λ j. signatureAt (p .size) bag (getD taken (takenSize * j + 1) 0)) t)
-        ∙ length-append (joined (λ j. signatureAt (p .size) bag (getD taken (takenSize * j + 1) 0)) t) _ in
+        let stamp = ap (λ (k : ℕ). length (signatureAt (p .size) itemBytes k)) stamp-cell in
+        let one = ap length (joined-next (certificatePart itemBytes p votes taken) t) ∙ length-append (joined (certificatePart itemBytes p votes taken) t) _ in
+        let two = ap length (joined-next (λ j. signatureAt (p .size) itemBytes (getD taken (takenSize * j + 1) 0)) t)
+        ∙ length-append (joined (λ j. signatureAt (p .size) itemBytes (getD taken (takenSize * j + 1) 0)) t) _ in
         omega (arith, a, size, stamp, one, two)

@@ -59,21 +59,21 @@ table-long form named rs votes h =
 -- ---- the sizes as they are
 
 sizes-own : List ℕ → Plan → List ℕ → List ℕ → Sizes
-sizes-own bag p votes taken =
+sizes-own itemBytes p votes taken =
     record {
-      leaders = length (leadersPart bag p votes taken);
-      stamps = length (stampsPart bag p taken);
-      commit = length (commitPart (p .size) bag (p .replicas) (drop (takenSize * p .leaders) taken));
+      leaders = length (leadersPart itemBytes p votes taken);
+      stamps = length (stampsPart itemBytes p taken);
+      commit = length (commitPart (p .size) itemBytes (p .replicas) (drop (takenSize * p .leaders) taken));
     }
 
-own-sizes : (bag : List ℕ) (p : Plan) (votes taken : List ℕ) → SizesOf bag p votes taken (sizes-own bag p votes taken)
+own-sizes : (itemBytes : List ℕ) (p : Plan) (votes taken : List ℕ) → SizesOf itemBytes p votes taken (sizes-own itemBytes p votes taken)
 unfolding sizes-own
-own-sizes bag p votes taken = record { leaders = refl; stamps = refl; commit = refl }
+own-sizes itemBytes p votes taken = record { leaders = refl; stamps = refl; commit = refl }
 
 -- ---- the plan
 
-module _ {roster log bag votes : List ℕ} {p : Plan} {taken : List ℕ} (plan : Planned roster log bag votes p taken) where
-  pub rows-held : RowsInside bag p taken
+module _ {roster log itemBytes votes : List ℕ} {p : Plan} {taken : List ℕ} (plan : Planned roster log itemBytes votes p taken) where
+  pub rows-held : RowsInside itemBytes p taken
   rows-held =
       record {
         width = plan .width;
@@ -95,7 +95,7 @@ module _ {roster log bag votes : List ℕ} {p : Plan} {taken : List ℕ} (plan :
   terms = runs (recordsOf (p .width) (p .records) log)
 
   abbrev ls : List Lead
-  ls = leadsIn (p .size) bag form (p .replicas) taken terms
+  ls = leadsIn (p .size) itemBytes form (p .replicas) taken terms
 
   named : length name ≡ nameSize
   unfolding cluster
@@ -110,34 +110,34 @@ module _ {roster log bag votes : List ℕ} {p : Plan} {taken : List ℕ} (plan :
   -- ---- what is written
 
   module _ (bytes : Bytes log) where
-    view-parts : bytesTaken roster log bag p taken
-        ≡ laid name log (leadersPart bag p votes taken) (stampsPart bag p taken)
-        (commitPart (p .size) bag (p .replicas) (drop (takenSize * p .leaders) taken)) (p .records) (p .leaders)
+    view-parts : bytesTaken roster log itemBytes p taken
+        ≡ laid name log (leadersPart itemBytes p votes taken) (stampsPart itemBytes p taken)
+        (commitPart (p .size) itemBytes (p .replicas) (drop (takenSize * p .leaders) taken)) (p .records) (p .leaders)
     unfolding bytesTaken viewTaken encode trailerBytes
     view-parts =
         let one = log-bytes (p .width) name (p .records) log bytes (plan .logged) in
-        let two = leaders-bytes bag votes taken name p rows-held named terms (plan .leaders) (plan .tabled) in
-        let three = stamps-bytes bag votes taken name p rows-held named terms (plan .leaders) in
-        let four = commit-bytes (p .size) bag form (p .replicas) (drop (takenSize * p .leaders) taken) (commit-row-places rows-held) in
+        let two = leaders-bytes itemBytes votes taken name p rows-held named terms (plan .leaders) (plan .tabled) in
+        let three = stamps-bytes itemBytes votes taken name p rows-held named terms (plan .leaders) in
+        let four = commit-bytes (p .size) itemBytes form (p .replicas) (drop (takenSize * p .leaders) taken) (commit-row-places rows-held) in
         let H = length-records (p .width) (p .records) log in
         let L : length (map (λ (l : Lead). l .certificate) ls) ≡ p .leaders =
-        length-map ls (λ (l : Lead). l .certificate) ∙ leads-count (p .size) bag form (p .replicas) taken terms ∙ sym (plan .leaders) in
+        length-map ls (λ (l : Lead). l .certificate) ∙ leads-count (p .size) itemBytes form (p .replicas) taken terms ∙ sym (plan .leaders) in
         (λ i. laid name (one i) (two i) (three i) (four i) (H i) (L i))
 
-    pub bytes-parts : {s : Sizes} → SizesOf bag p votes taken s
-        → bytesTaken roster log bag p taken ≡ (log ++ certifiedPart bag p votes taken) ++ trailerPart name (fieldsFor p (length log) s)
+    pub bytes-parts : {s : Sizes} → SizesOf itemBytes p votes taken s
+        → bytesTaken roster log itemBytes p taken ≡ (log ++ certifiedPart itemBytes p votes taken) ++ trailerPart name (fieldsFor p (length log) s)
     unfolding certifiedPart
     bytes-parts sizes =
         let l = sym (sizes .leaders) in
         let t = sym (sizes .stamps) in
         let k = sym (sizes .commit) in
         view-parts
-        ∙ laid-parts name log (leadersPart bag p votes taken) (stampsPart bag p taken)
-        (commitPart (p .size) bag (p .replicas) (drop (takenSize * p .leaders) taken)) (p .records) (p .leaders)
+        ∙ laid-parts name log (leadersPart itemBytes p votes taken) (stampsPart itemBytes p taken)
+        (commitPart (p .size) itemBytes (p .replicas) (drop (takenSize * p .leaders) taken)) (p .records) (p .leaders)
         ∙ (λ i.
         (log
-        ++ (leadersPart bag p votes taken ++ stampsPart bag p taken
-        ++ commitPart (p .size) bag (p .replicas) (drop (takenSize * p .leaders) taken)))
+        ++ (leadersPart itemBytes p votes taken ++ stampsPart itemBytes p taken
+        ++ commitPart (p .size) itemBytes (p .replicas) (drop (takenSize * p .leaders) taken)))
         ++ trailerPart name
         (p .records ∷ p .leaders ∷ (length log + (l i + (t i + k i))) ∷ (l i + (t i + k i)) ∷ (t i + k i) ∷ k i ∷ 1 ∷ []))
 
@@ -150,18 +150,18 @@ module _ {roster log bag votes : List ℕ} {p : Plan} {taken : List ℕ} (plan :
         ∙ rw (named, joined-long (λ i. be 4 (getD fields i 0)) 4 (λ i. length-be 4 (getD fields i 0)) fieldCount) refl
 
     pub written-long : length log
-        + (length (leadersPart bag p votes taken) + length (stampsPart bag p taken))
-        + length (commitPart (p .size) bag (p .replicas) (drop (takenSize * p .leaders) taken)) + nameSize + 4 * fieldCount
-        ≡ length (bytesTaken roster log bag p taken)
+        + (length (leadersPart itemBytes p votes taken) + length (stampsPart itemBytes p taken))
+        + length (commitPart (p .size) itemBytes (p .replicas) (drop (takenSize * p .leaders) taken)) + nameSize + 4 * fieldCount
+        ≡ length (bytesTaken roster log itemBytes p taken)
     unfolding certifiedPart
     written-long =
-        let two = leadersPart bag p votes taken in
-        let three = stampsPart bag p taken in
-        let four = commitPart (p .size) bag (p .replicas) (drop (takenSize * p .leaders) taken) in
-        let fields = fieldsFor p (length log) (sizes-own bag p votes taken) in
+        let two = leadersPart itemBytes p votes taken in
+        let three = stampsPart itemBytes p taken in
+        let four = commitPart (p .size) itemBytes (p .replicas) (drop (takenSize * p .leaders) taken) in
+        let fields = fieldsFor p (length log) (sizes-own itemBytes p votes taken) in
         omega (
           arith,
-          ap length (bytes-parts (own-sizes bag p votes taken)),
+          ap length (bytes-parts (own-sizes itemBytes p votes taken)),
           length-append (log ++ (two ++ three ++ four)) (trailerPart name fields),
           length-append log (two ++ three ++ four),
           length-append (two ++ three) four,
@@ -172,13 +172,13 @@ module _ {roster log bag votes : List ℕ} {p : Plan} {taken : List ℕ} (plan :
     -- ---- a buffer with room for it
 
     abbrev certified : List ℕ
-    certified = certifiedPart bag p votes taken
+    certified = certifiedPart itemBytes p votes taken
 
-    module _ (e : List ℕ) (room : length (bytesTaken roster log bag p taken) ≤ length e) where
+    module _ (e : List ℕ) (room : length (bytesTaken roster log itemBytes p taken) ≤ length e) where
       begins-room : length (log ++ certified) ≤ length e
       begins-room =
-          let whole = bytes-parts (own-sizes bag p votes taken) in
-          omega (arith, ap length whole, length-append (log ++ certified) (trailerPart name (fieldsFor p (length log) (sizes-own bag p votes taken))))
+          let whole = bytes-parts (own-sizes itemBytes p votes taken) in
+          omega (arith, ap length whole, length-append (log ++ certified) (trailerPart name (fieldsFor p (length log) (sizes-own itemBytes p votes taken))))
 
       pub log-room : length log ≤ length e
       log-room = omega (arith, begins-room, length-append log certified)
@@ -186,13 +186,13 @@ module _ {roster log bag votes : List ℕ} {p : Plan} {taken : List ℕ} (plan :
       pub log-begun : {out : List ℕ} → out ≡ sets e 0 log → Begun log certified e out (length log)
       log-begun o = record { room = begins-room; put = o ∙ over-first e log log-room; here = refl }
 
-      module _ {s : Sizes} (sizes : SizesOf bag p votes taken s) where
+      module _ {s : Sizes} (sizes : SizesOf itemBytes p votes taken s) where
         pub parts-end : length log + (s .leaders + (s .stamps + s .commit)) ≡ length (log ++ certified)
         unfolding certifiedPart
         parts-end =
-            let two = leadersPart bag p votes taken in
-            let three = stampsPart bag p taken in
-            let four = commitPart (p .size) bag (p .replicas) (drop (takenSize * p .leaders) taken) in
+            let two = leadersPart itemBytes p votes taken in
+            let three = stampsPart itemBytes p taken in
+            let four = commitPart (p .size) itemBytes (p .replicas) (drop (takenSize * p .leaders) taken) in
             omega (
               arith,
               length-append log (two ++ three ++ four),

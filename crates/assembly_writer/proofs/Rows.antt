@@ -27,15 +27,15 @@ vote-inside w {t = t} {count = count} h less fits = rw h (omega (arith, one-insi
 pub row-part : (taken : List ℕ) (t : ℕ) → take (takenSize * t + takenSize - takenSize * t) (drop (takenSize * t) taken) ≡ rowAt taken t
 row-part taken t = part-from taken (takenSize * t) takenSize
 
-pub certificate-part : (bag votes taken : List ℕ) (p : Plan) (tail t : ℕ) → tail ≡ voteTail (p .width)
-    → certificateIn (p .size) bag (p .replicas)
+pub certificate-part : (itemBytes votes taken : List ℕ) (p : Plan) (tail t : ℕ) → tail ≡ voteTail (p .width)
+    → certificateIn (p .size) itemBytes (p .replicas)
     (take (voteHead + tail * t + tail - (voteHead + tail * t)) (drop (voteHead + tail * t) votes))
-    (take (takenSize * t + takenSize - takenSize * t) (drop (takenSize * t) taken)) ≡ certificatePart bag p votes taken t
+    (take (takenSize * t + takenSize - takenSize * t) (drop (takenSize * t) taken)) ≡ certificatePart itemBytes p votes taken t
 unfolding certificatePart
-certificate-part bag votes taken p tail t h =
+certificate-part itemBytes votes taken p tail t h =
     rw (h, part-from votes (voteHead + voteTail (p .width) * t) (voteTail (p .width)), row-part taken t) refl
 
-module _ {bag : List ℕ} {p : Plan} {taken : List ℕ} (held : RowsInside bag p taken) (t : ℕ) (inside : t ≤ p .leaders) where
+module _ {itemBytes : List ℕ} {p : Plan} {taken : List ℕ} (held : RowsInside itemBytes p taken) (t : ℕ) (inside : t ≤ p .leaders) where
   pub row-long : length (rowAt taken t) ≡ takenSize
   row-long = length-take-le takenSize (drop (takenSize * t) taken) (rw length-drop (omega (arith, held .long)))
 
@@ -44,7 +44,7 @@ module _ {bag : List ℕ} {p : Plan} {taken : List ℕ} (held : RowsInside bag p
       let same : takenSize * t + 0 ≡ takenSize * t = omega arith in
       omega (arith, row-cell taken t 0 (omega arith), ap (λ (k : ℕ). getD taken k 0) same, held .candidates t h, held .replicas)
 
-  pub row-places : PlacesHeld (p .size) bag (p .replicas) (drop 2 (rowAt taken t))
+  pub row-places : PlacesHeld (p .size) itemBytes (p .replicas) (drop 2 (rowAt taken t))
   unfolding Placed
   row-places =
       record {
@@ -57,7 +57,7 @@ module _ {bag : List ℕ} {p : Plan} {taken : List ℕ} (held : RowsInside bag p
 
 -- ---- the row of the commit, with what follows it
 
-module _ {bag : List ℕ} {p : Plan} {taken : List ℕ} (held : RowsInside bag p taken) where
+module _ {itemBytes : List ℕ} {p : Plan} {taken : List ℕ} (held : RowsInside itemBytes p taken) where
   abbrev commit-row : List ℕ
   commit-row = drop (takenSize * p .leaders) taken
 
@@ -67,7 +67,7 @@ module _ {bag : List ℕ} {p : Plan} {taken : List ℕ} (held : RowsInside bag p
   pub commit-row-first : getD commit-row 0 0 ≡ getD taken (takenSize * p .leaders) 0
   commit-row-first = getD-drop (takenSize * p .leaders) taken 0 0 ∙ ap (λ (k : ℕ). getD taken k 0) (add-zero (takenSize * p .leaders))
 
-  pub commit-row-places : PlacesHeld (p .size) bag (p .replicas) (drop 2 commit-row)
+  pub commit-row-places : PlacesHeld (p .size) itemBytes (p .replicas) (drop 2 commit-row)
   unfolding Placed
   commit-row-places =
       record {

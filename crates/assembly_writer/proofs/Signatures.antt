@@ -14,23 +14,23 @@ use Rattle.submission_encoding.specs.Copies.{signatureOf}
 use Rattle.assembly_copies.specs.Rows.{copyAt}
 use Rattle.assembly_writer.specs.Parts.{signatureAt}
 
-module _ (S : ℕ) (bag : List ℕ) (place : ℕ) where
-  signature-none : place ≡ 0 → signatureAt S bag place ≡ []
+module _ (S : ℕ) (itemBytes : List ℕ) (place : ℕ) where
+  signature-none : place ≡ 0 → signatureAt S itemBytes place ≡ []
   unfolding signatureAt copyAt signatureOf
   signature-none e = rw (eq-eqb place 0 e) refl
 
   -- what is left of a buffer where there is none
-  pub none-put : (e : List ℕ) → place ≡ 0 → (0 ≡ length (signatureAt S bag place)) × (e ≡ over (signatureAt S bag place) e)
+  pub none-put : (e : List ℕ) → place ≡ 0 → (0 ≡ length (signatureAt S itemBytes place)) × (e ≡ over (signatureAt S itemBytes place) e)
   none-put e h = (sym (ap length (signature-none h)), sym (ap (λ z. over z e) (signature-none h) ∙ over-nothing e))
 
   module _ (some-place : place ≡ 0 → ⊥) where
-    signature-some : signatureAt S bag place ≡ take S (drop place bag)
+    signature-some : signatureAt S itemBytes place ≡ take S (drop place itemBytes)
     unfolding signatureAt copyAt signatureOf
     signature-some = rw (ne-eqb place 0 some-place) refl
 
     -- the part of the bag that it is
-    pub signature-part : take (place + S - place) (drop place bag) ≡ signatureAt S bag place
-    signature-part = part-from bag place S ∙ sym signature-some
+    pub signature-part : take (place + S - place) (drop place itemBytes) ≡ signatureAt S itemBytes place
+    signature-part = part-from itemBytes place S ∙ sym signature-some
 
-    pub signature-long : place ≤ length bag - S → S ≡ length (signatureAt S bag place)
-    signature-long h = sym (ap length signature-some ∙ length-take-le S (drop place bag) (rw length-drop (omega arith)))
+    pub signature-long : place ≤ length itemBytes - S → S ≡ length (signatureAt S itemBytes place)
+    signature-long h = sym (ap length signature-some ∙ length-take-le S (drop place itemBytes) (rw length-drop (omega arith)))

@@ -23,10 +23,10 @@ joined part (suc count) = joined part count ++ part count
 
 -- ---- signatures
 
-module _ (S : ℕ) (bag : List ℕ) where
+module _ (S : ℕ) (itemBytes : List ℕ) where
   -- by its place; nothing for place 0
   unfoldable pub signatureAt : ℕ → List ℕ
-  signatureAt place = signatureOf (copyAt S bag place)
+  signatureAt place = signatureOf (copyAt S itemBytes place)
 
   -- those of n replicas
   abbrev pub signaturesAt : ℕ → List ℕ → List ℕ
@@ -34,7 +34,7 @@ module _ (S : ℕ) (bag : List ℕ) where
 
   -- the signers, then their signatures
   unfoldable pub signedAt : ℕ → List ℕ → List ℕ
-  signedAt n places = be 2 (signersOf (copiesAt S bag n places)) ++ signaturesAt n places
+  signedAt n places = be 2 (signersOf (copiesAt S itemBytes n places)) ++ signaturesAt n places
 
   -- a leader certificate, from its row and the end of its vote
   unfoldable pub certificateIn : ℕ → List ℕ → List ℕ → List ℕ
@@ -50,30 +50,31 @@ module _ (S : ℕ) (bag : List ℕ) where
 abbrev pub voteEndAt : ℕ → List ℕ → ℕ → List ℕ
 voteEndAt w votes t = take (voteTail w) (drop (voteHead + voteTail w * t) votes)
 
-module _ (bag : List ℕ) (p : Plan) where
+module _ (itemBytes : List ℕ) (p : Plan) where
   unfoldable pub certificatePart : List ℕ → List ℕ → ℕ → List ℕ
   certificatePart votes taken t =
-      certificateIn (p .size) bag (p .replicas) (voteEndAt (p .width) votes t) (rowAt taken t)
+      certificateIn (p .size) itemBytes (p .replicas) (voteEndAt (p .width) votes t) (rowAt taken t)
 
   abbrev pub leadersPart : List ℕ → List ℕ → List ℕ
   leadersPart votes taken = joined (certificatePart votes taken) (p .leaders)
 
   abbrev pub stampsPart : List ℕ → List ℕ
-  stampsPart taken = joined (λ t. signatureAt (p .size) bag (getD taken (takenSize * t + 1) 0)) (p .leaders)
+  stampsPart taken =
+      joined (λ t. signatureAt (p .size) itemBytes (getD taken (takenSize * t + 1) 0)) (p .leaders)
 
 -- ---- parts 2 to 4
 
 unfoldable pub certifiedPart : List ℕ → Plan → List ℕ → List ℕ → List ℕ
-certifiedPart bag p votes taken =
-    leadersPart bag p votes taken ++ stampsPart bag p taken
-    ++ commitPart (p .size) bag (p .replicas) (drop (takenSize * p .leaders) taken)
+certifiedPart itemBytes p votes taken =
+    leadersPart itemBytes p votes taken ++ stampsPart itemBytes p taken
+    ++ commitPart (p .size) itemBytes (p .replicas) (drop (takenSize * p .leaders) taken)
 
 -- how many bytes each has
-pub record SizesOf (bag : List ℕ) (p : Plan) (votes taken : List ℕ) (s : Sizes) : Type 0 where
-  pub leaders : s .leaders ≡ length (leadersPart bag p votes taken)
-  pub stamps : s .stamps ≡ length (stampsPart bag p taken)
+pub record SizesOf (itemBytes : List ℕ) (p : Plan) (votes taken : List ℕ) (s : Sizes) : Type 0 where
+  pub leaders : s .leaders ≡ length (leadersPart itemBytes p votes taken)
+  pub stamps : s .stamps ≡ length (stampsPart itemBytes p taken)
   pub commit : s .commit
-      ≡ length (commitPart (p .size) bag (p .replicas) (drop (takenSize * p .leaders) taken))
+      ≡ length (commitPart (p .size) itemBytes (p .replicas) (drop (takenSize * p .leaders) taken))
 
 -- ---- part 5
 
@@ -107,14 +108,14 @@ commitMost = 4 + signedMost
 -- ---- what the writers ask for
 
 -- n replicas, and a whole signature at each of their places that is not 0
-pub record PlacesHeld (S : ℕ) (bag : List ℕ) (n : ℕ) (places : List ℕ) : Type 0 where
+pub record PlacesHeld (S : ℕ) (itemBytes : List ℕ) (n : ℕ) (places : List ℕ) : Type 0 where
   pub size : S ≤ signatureMost
   pub few : n ≤ replicasMost
   pub long : n ≤ length places
-  pub inside : Placed S bag n places
+  pub inside : Placed S itemBytes n places
 
 -- rows for so many terms, and one for the commit
-pub record RowsInside (bag : List ℕ) (p : Plan) (taken : List ℕ) : Type 0 where
+pub record RowsInside (itemBytes : List ℕ) (p : Plan) (taken : List ℕ) : Type 0 where
   pub width : p .width ≤ widthMost
   pub size : p .size ≤ signatureMost
   pub replicas : p .replicas ≤ replicasMost
@@ -122,4 +123,4 @@ pub record RowsInside (bag : List ℕ) (p : Plan) (taken : List ℕ) : Type 0 wh
   pub long : takenSize * (p .leaders + 1) ≤ length taken
   pub candidates : (t : ℕ) → t < p .leaders → getD taken (takenSize * t) 0 ≤ p .replicas
   pub inside : (t k : ℕ) → t ≤ p .leaders → 0 < k → k < takenSize
-      → getD taken (takenSize * t + k) 0 ≤ length bag - p .size
+      → getD taken (takenSize * t + k) 0 ≤ length itemBytes - p .size

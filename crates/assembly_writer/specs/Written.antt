@@ -16,7 +16,7 @@ use Rattle.assembly_copies.specs.Rows.{replicasMost, takenSize, leadsIn, commit
 use Rattle.assembly_terms.specs.Wanted.{VotesIn}
 use Rattle.assembly_writer.specs.declared.Plan.{Plan}
 
-module _ (roster log bag : List ℕ) (p : Plan) (taken : List ℕ) where
+module _ (roster log itemBytes : List ℕ) (p : Plan) (taken : List ℕ) where
   abbrev pub formTaken : Form
   formTaken = withTerms (p .width) (cluster roster)
 
@@ -26,19 +26,19 @@ module _ (roster log bag : List ℕ) (p : Plan) (taken : List ℕ) where
   -- a row for each term, and one for the commit
   unfoldable pub viewTaken : View
   viewTaken =
-      let ls = leadsIn (p .size) bag formTaken (p .replicas) taken (runs recordsTaken) in
+      let ls = leadsIn (p .size) itemBytes formTaken (p .replicas) taken (runs recordsTaken) in
       record {
         log = recordsTaken;
         leaders = map (λ l. l .certificate) ls;
         stamps = map (λ l. l .stamp) ls;
-        commit = commitIn (p .size) bag (p .replicas) (drop (takenSize * p .leaders) taken);
+        commit = commitIn (p .size) itemBytes (p .replicas) (drop (takenSize * p .leaders) taken);
       }
 
   unfoldable pub bytesTaken : List ℕ
   bytesTaken = encode (p .size) formTaken 1 viewTaken
 
 -- what it asks for: a whole log with so many terms, the votes' table, and rows with places inside the bag
-pub record Planned (roster log bag votes : List ℕ) (p : Plan) (taken : List ℕ) : Type 0 where
+pub record Planned (roster log itemBytes votes : List ℕ) (p : Plan) (taken : List ℕ) : Type 0 where
   pub name : nameSize ≤ length roster
   pub width : p .width ≤ widthMost
   pub size : p .size ≤ signatureMost
@@ -53,4 +53,4 @@ pub record Planned (roster log bag votes : List ℕ) (p : Plan) (taken : List �
   pub candidates : (t : ℕ) → t < p .leaders → getD taken (takenSize * t) 0 ≤ p .replicas
   pub index : getD taken (takenSize * p .leaders) 0 ≤ p .records
   pub places : (t k : ℕ) → t ≤ p .leaders → 0 < k → k < takenSize
-      → getD taken (takenSize * t + k) 0 ≤ length bag - p .size
+      → getD taken (takenSize * t + k) 0 ≤ length itemBytes - p .size

@@ -43,34 +43,34 @@ struct Sizes {
 }
 
 // Writes the signature at a place of the bag, nothing for place 0, and gives the number of its bytes.
-fn put_signature(out: &mut [u8], bag: &[u8], size: usize, place: usize) -> usize
-    requires { ⌜ (place ≤ length (now bag) - size)
-        × (length (signatureAt size (now bag) place) ≤ length (now out)) ⌝ }
-    ensures size { λ r. ⌜ r ≡ length (signatureAt size (now (bag .entry)) place) ⌝ }
+fn put_signature(out: &mut [u8], items: &[u8], size: usize, place: usize) -> usize
+    requires { ⌜ (place ≤ length (now items) - size)
+        × (length (signatureAt size (now items) place) ≤ length (now out)) ⌝ }
+    ensures size { λ r. ⌜ r ≡ length (signatureAt size (now (items .entry)) place) ⌝ }
     ensures bytes { λ _. ⌜ now (out .exit)
-        ≡ over (signatureAt size (now (bag .entry)) place) (now (out .entry)) ⌝ }
+        ≡ over (signatureAt size (now (items .entry)) place) (now (out .entry)) ⌝ }
 {
     if place == 0 {
         return 0;
     }
     let end = place + size;
-    words::put_bytes(out, 0, &bag[place..end]);
+    words::put_bytes(out, 0, &items[place..end]);
     size
 }
 
 // Writes the signatures of n replicas, and gives the number of their bytes.
-fn put_signatures(out: &mut [u8], bag: &[u8], size: usize, n: usize, places: &[usize]) -> usize
-    requires { ⌜ PlacesHeld size (now bag) n (now places)
-        × (length (signaturesAt size (now bag) n (now places)) ≤ length (now out)) ⌝ }
-    ensures size { λ r. ⌜ r ≡ length (signaturesAt size (now (bag .entry)) n (now (places .entry))) ⌝ }
+fn put_signatures(out: &mut [u8], items: &[u8], size: usize, n: usize, places: &[usize]) -> usize
+    requires { ⌜ PlacesHeld size (now items) n (now places)
+        × (length (signaturesAt size (now items) n (now places)) ≤ length (now out)) ⌝ }
+    ensures size { λ r. ⌜ r ≡ length (signaturesAt size (now (items .entry)) n (now (places .entry))) ⌝ }
     ensures bytes { λ _. ⌜ now (out .exit)
-        ≡ over (signaturesAt size (now (bag .entry)) n (now (places .entry))) (now (out .entry)) ⌝ }
+        ≡ over (signaturesAt size (now (items .entry)) n (now (places .entry))) (now (out .entry)) ⌝ }
 {
     let mut at = 0;
     let mut k = 0;
     while k < n {
         let rest = &mut out[at..];
-        let written = put_signature(rest, bag, size, places[k]);
+        let written = put_signature(rest, items, size, places[k]);
         at += written;
         k += 1;
     }
@@ -78,37 +78,37 @@ fn put_signatures(out: &mut [u8], bag: &[u8], size: usize, n: usize, places: &[u
 }
 
 // Writes the signers of n replicas, then their signatures, and gives the number of their bytes.
-fn put_signed(out: &mut [u8], bag: &[u8], size: usize, n: usize, places: &[usize]) -> usize
-    requires { ⌜ PlacesHeld size (now bag) n (now places)
-        × (length (signedAt size (now bag) n (now places)) ≤ length (now out)) ⌝ }
-    ensures size { λ r. ⌜ r ≡ length (signedAt size (now (bag .entry)) n (now (places .entry))) ⌝ }
+fn put_signed(out: &mut [u8], items: &[u8], size: usize, n: usize, places: &[usize]) -> usize
+    requires { ⌜ PlacesHeld size (now items) n (now places)
+        × (length (signedAt size (now items) n (now places)) ≤ length (now out)) ⌝ }
+    ensures size { λ r. ⌜ r ≡ length (signedAt size (now (items .entry)) n (now (places .entry))) ⌝ }
     ensures bytes { λ _. ⌜ now (out .exit)
-        ≡ over (signedAt size (now (bag .entry)) n (now (places .entry))) (now (out .entry)) ⌝ }
+        ≡ over (signedAt size (now (items .entry)) n (now (places .entry))) (now (out .entry)) ⌝ }
 {
     let at = submission::SIGNERS_SIZE;
     let signers = assembly_copies::masks::mask_of(places, n);
     words::put_u16(out, 0, signers);
     let rest = &mut out[at..];
-    at + put_signatures(rest, bag, size, n, places)
+    at + put_signatures(rest, items, size, n, places)
 }
 
 // Writes a leader certificate, from its row and the end of its vote, and gives the number of its bytes.
-fn put_certificate(out: &mut [u8], bag: &[u8], end: &[u8], row: &[usize], plan: Plan) -> usize
-    requires { ⌜ PlacesHeld (plan .size) (now bag) (plan .replicas) (drop 2 (now row))
+fn put_certificate(out: &mut [u8], items: &[u8], end: &[u8], row: &[usize], plan: Plan) -> usize
+    requires { ⌜ PlacesHeld (plan .size) (now items) (plan .replicas) (drop 2 (now row))
         × (2 ≤ length (now row)) × (getD (now row) 0 0 < 65536)
-        × (length (certificateIn (plan .size) (now bag) (plan .replicas) (now end) (now row))
+        × (length (certificateIn (plan .size) (now items) (plan .replicas) (now end) (now row))
         ≤ length (now out)) ⌝ }
-    ensures size { λ r. ⌜ r ≡ length (certificateIn (plan .size) (now (bag .entry)) (plan .replicas)
+    ensures size { λ r. ⌜ r ≡ length (certificateIn (plan .size) (now (items .entry)) (plan .replicas)
         (now (end .entry)) (now (row .entry))) ⌝ }
     ensures bytes { λ _. ⌜ now (out .exit)
-        ≡ over (certificateIn (plan .size) (now (bag .entry)) (plan .replicas) (now (end .entry))
+        ≡ over (certificateIn (plan .size) (now (items .entry)) (plan .replicas) (now (end .entry))
         (now (row .entry))) (now (out .entry)) ⌝ }
 {
     let at = submission::TERM_AT + end.len();
     words::put_u16(out, 0, row[0] as u16);
     words::put_bytes(out, submission::TERM_AT, end);
     let rest = &mut out[at..];
-    at + put_signed(rest, bag, plan.size, plan.replicas, &row[PLACES_AT..])
+    at + put_signed(rest, items, plan.size, plan.replicas, &row[PLACES_AT..])
 }
 
 // The bytes of the end of a vote, from its term on.
@@ -120,14 +120,14 @@ fn vote_tail(width: usize) -> usize
 }
 
 // Writes the leader certificates, a row and the end of a vote for each, and gives the number of their bytes.
-fn put_leaders(out: &mut [u8], bag: &[u8], votes: &[u8], plan: Plan, taken: &[usize]) -> usize
-    requires { ⌜ RowsInside (now bag) plan (now taken)
+fn put_leaders(out: &mut [u8], items: &[u8], votes: &[u8], plan: Plan, taken: &[usize]) -> usize
+    requires { ⌜ RowsInside (now items) plan (now taken)
         × (voteHead + voteTail (plan .width) * plan .leaders ≤ length (now votes))
-        × (length (leadersPart (now bag) plan (now votes) (now taken)) ≤ length (now out)) ⌝ }
+        × (length (leadersPart (now items) plan (now votes) (now taken)) ≤ length (now out)) ⌝ }
     ensures size { λ r. ⌜ r
-        ≡ length (leadersPart (now (bag .entry)) plan (now (votes .entry)) (now (taken .entry))) ⌝ }
+        ≡ length (leadersPart (now (items .entry)) plan (now (votes .entry)) (now (taken .entry))) ⌝ }
     ensures bytes { λ _. ⌜ now (out .exit)
-        ≡ over (leadersPart (now (bag .entry)) plan (now (votes .entry)) (now (taken .entry)))
+        ≡ over (leadersPart (now (items .entry)) plan (now (votes .entry)) (now (taken .entry)))
         (now (out .entry)) ⌝ }
 {
     let leaders = plan.leaders;
@@ -142,7 +142,7 @@ fn put_leaders(out: &mut [u8], bag: &[u8], votes: &[u8], plan: Plan, taken: &[us
         let rest = &mut out[at..];
         let size = put_certificate(
             rest,
-            bag,
+            items,
             &votes[vote..vote_end],
             &taken[row..row_end],
             plan,
@@ -154,12 +154,12 @@ fn put_leaders(out: &mut [u8], bag: &[u8], votes: &[u8], plan: Plan, taken: &[us
 }
 
 // Writes the stamps' signatures, and gives the number of their bytes.
-fn put_stamps(out: &mut [u8], bag: &[u8], plan: Plan, taken: &[usize]) -> usize
-    requires { ⌜ RowsInside (now bag) plan (now taken)
-        × (length (stampsPart (now bag) plan (now taken)) ≤ length (now out)) ⌝ }
-    ensures size { λ r. ⌜ r ≡ length (stampsPart (now (bag .entry)) plan (now (taken .entry))) ⌝ }
+fn put_stamps(out: &mut [u8], items: &[u8], plan: Plan, taken: &[usize]) -> usize
+    requires { ⌜ RowsInside (now items) plan (now taken)
+        × (length (stampsPart (now items) plan (now taken)) ≤ length (now out)) ⌝ }
+    ensures size { λ r. ⌜ r ≡ length (stampsPart (now (items .entry)) plan (now (taken .entry))) ⌝ }
     ensures bytes { λ _. ⌜ now (out .exit)
-        ≡ over (stampsPart (now (bag .entry)) plan (now (taken .entry))) (now (out .entry)) ⌝ }
+        ≡ over (stampsPart (now (items .entry)) plan (now (taken .entry))) (now (out .entry)) ⌝ }
 {
     let leaders = plan.leaders;
     let size = plan.size;
@@ -167,7 +167,7 @@ fn put_stamps(out: &mut [u8], bag: &[u8], plan: Plan, taken: &[usize]) -> usize
     let mut t = 0;
     while t < leaders {
         let rest = &mut out[at..];
-        let written = put_signature(rest, bag, size, taken[TAKEN_SIZE * t + STAMP_AT]);
+        let written = put_signature(rest, items, size, taken[TAKEN_SIZE * t + STAMP_AT]);
         at += written;
         t += 1;
     }
@@ -175,14 +175,14 @@ fn put_stamps(out: &mut [u8], bag: &[u8], plan: Plan, taken: &[usize]) -> usize
 }
 
 // Writes the commit certificate from its row, nothing with index 0, and gives the number of its bytes.
-fn put_commit(out: &mut [u8], bag: &[u8], row: &[usize], plan: Plan) -> usize
-    requires { ⌜ PlacesHeld (plan .size) (now bag) (plan .replicas) (drop 2 (now row))
+fn put_commit(out: &mut [u8], items: &[u8], row: &[usize], plan: Plan) -> usize
+    requires { ⌜ PlacesHeld (plan .size) (now items) (plan .replicas) (drop 2 (now row))
         × (2 ≤ length (now row)) × (getD (now row) 0 0 < 4294967296)
-        × (length (commitPart (plan .size) (now bag) (plan .replicas) (now row)) ≤ length (now out)) ⌝ }
+        × (length (commitPart (plan .size) (now items) (plan .replicas) (now row)) ≤ length (now out)) ⌝ }
     ensures size { λ r. ⌜ r
-        ≡ length (commitPart (plan .size) (now (bag .entry)) (plan .replicas) (now (row .entry))) ⌝ }
+        ≡ length (commitPart (plan .size) (now (items .entry)) (plan .replicas) (now (row .entry))) ⌝ }
     ensures bytes { λ _. ⌜ now (out .exit)
-        ≡ over (commitPart (plan .size) (now (bag .entry)) (plan .replicas) (now (row .entry)))
+        ≡ over (commitPart (plan .size) (now (items .entry)) (plan .replicas) (now (row .entry)))
         (now (out .entry)) ⌝ }
 {
     let index = row[0];
@@ -192,27 +192,27 @@ fn put_commit(out: &mut [u8], bag: &[u8], row: &[usize], plan: Plan) -> usize
     let at = submission::COMMIT_SIGNERS_AT;
     words::put_u32(out, 0, index as u32);
     let rest = &mut out[at..];
-    at + put_signed(rest, bag, plan.size, plan.replicas, &row[PLACES_AT..])
+    at + put_signed(rest, items, plan.size, plan.replicas, &row[PLACES_AT..])
 }
 
 // Writes parts 2 to 4, and gives the number of bytes of each.
-fn put_certified(out: &mut [u8], bag: &[u8], votes: &[u8], plan: Plan, taken: &[usize]) -> Sizes
-    requires { ⌜ RowsInside (now bag) plan (now taken)
+fn put_certified(out: &mut [u8], items: &[u8], votes: &[u8], plan: Plan, taken: &[usize]) -> Sizes
+    requires { ⌜ RowsInside (now items) plan (now taken)
         × (voteHead + voteTail (plan .width) * plan .leaders ≤ length (now votes))
         × (getD (now taken) (takenSize * plan .leaders) 0 < 4294967296)
-        × (length (certifiedPart (now bag) plan (now votes) (now taken)) ≤ length (now out)) ⌝ }
-    ensures sizes { λ r. ⌜ SizesOf (now (bag .entry)) plan (now (votes .entry)) (now (taken .entry)) r ⌝ }
+        × (length (certifiedPart (now items) plan (now votes) (now taken)) ≤ length (now out)) ⌝ }
+    ensures sizes { λ r. ⌜ SizesOf (now (items .entry)) plan (now (votes .entry)) (now (taken .entry)) r ⌝ }
     ensures bytes { λ _. ⌜ now (out .exit)
-        ≡ over (certifiedPart (now (bag .entry)) plan (now (votes .entry)) (now (taken .entry)))
+        ≡ over (certifiedPart (now (items .entry)) plan (now (votes .entry)) (now (taken .entry)))
         (now (out .entry)) ⌝ }
 {
     let row = TAKEN_SIZE * plan.leaders;
-    let leaders = put_leaders(out, bag, votes, plan, taken);
+    let leaders = put_leaders(out, items, votes, plan, taken);
     let second = &mut out[leaders..];
-    let stamps = put_stamps(second, bag, plan, taken);
+    let stamps = put_stamps(second, items, plan, taken);
     let at = leaders + stamps;
     let third = &mut out[at..];
-    let commit = put_commit(third, bag, &taken[row..], plan);
+    let commit = put_commit(third, items, &taken[row..], plan);
     Sizes {
         leaders: leaders,
         stamps: stamps,
@@ -274,8 +274,8 @@ fn put_trailer(out: &mut [u8], name: &[u8], fields: [u32; FIELD_COUNT]) -> usize
 // The bytes of the signers of n replicas and of their signatures.
 fn signed_size(size: usize, n: usize, places: &[usize]) -> usize
     requires { ⌜ (size ≤ signatureMost) × (n ≤ replicasMost) × (n ≤ length (now places)) ⌝ }
-    ensures size { λ r. ⌜ ((bag : List ℕ) → PlacesHeld size bag n (now (places .entry))
-        → r ≡ length (signedAt size bag n (now (places .entry)))) ⌝ }
+    ensures size { λ r. ⌜ ((items : List ℕ) → PlacesHeld size items n (now (places .entry))
+        → r ≡ length (signedAt size items n (now (places .entry)))) ⌝ }
     ensures most { λ r. ⌜ r ≤ signedMost ⌝ }
 {
     let count = u16::count_ones(assembly_copies::masks::mask_of(places, n)) as usize;
@@ -285,8 +285,8 @@ fn signed_size(size: usize, n: usize, places: &[usize]) -> usize
 // The bytes of the signature at a place: none at place 0.
 fn signature_size(size: usize, place: usize) -> usize
     requires { ⌜ size ≤ signatureMost ⌝ }
-    ensures size { λ r. ⌜ ((bag : List ℕ) → place ≤ length bag - size
-        → r ≡ length (signatureAt size bag place)) ⌝ }
+    ensures size { λ r. ⌜ ((items : List ℕ) → place ≤ length items - size
+        → r ≡ length (signatureAt size items place)) ⌝ }
     ensures most { λ r. ⌜ r ≤ signatureMost ⌝ }
 {
     if place == 0 {
@@ -299,11 +299,11 @@ fn signature_size(size: usize, place: usize) -> usize
 fn lead_size(row: &[usize], plan: Plan) -> usize
     requires { ⌜ (plan .width ≤ widthMost) × (plan .size ≤ signatureMost) × (plan .replicas ≤ replicasMost)
         × (takenSize ≤ length (now row)) ⌝ }
-    ensures size { λ r. ⌜ ((bag end : List ℕ)
-        → PlacesHeld (plan .size) bag (plan .replicas) (drop 2 (now (row .entry)))
-        → getD (now (row .entry)) 1 0 ≤ length bag - plan .size → length end ≡ voteTail (plan .width)
-        → r ≡ length (certificateIn (plan .size) bag (plan .replicas) end (now (row .entry)))
-        + length (signatureAt (plan .size) bag (getD (now (row .entry)) 1 0))) ⌝ }
+    ensures size { λ r. ⌜ ((items end : List ℕ)
+        → PlacesHeld (plan .size) items (plan .replicas) (drop 2 (now (row .entry)))
+        → getD (now (row .entry)) 1 0 ≤ length items - plan .size → length end ≡ voteTail (plan .width)
+        → r ≡ length (certificateIn (plan .size) items (plan .replicas) end (now (row .entry)))
+        + length (signatureAt (plan .size) items (getD (now (row .entry)) 1 0))) ⌝ }
     ensures most { λ r. ⌜ r ≤ leadMost ⌝ }
 {
     let stamp = signature_size(plan.size, row[STAMP_AT]);
@@ -315,9 +315,9 @@ fn lead_size(row: &[usize], plan: Plan) -> usize
 fn commit_size(row: &[usize], plan: Plan) -> usize
     requires { ⌜ (plan .size ≤ signatureMost) × (plan .replicas ≤ replicasMost)
         × (takenSize ≤ length (now row)) ⌝ }
-    ensures size { λ r. ⌜ ((bag : List ℕ)
-        → PlacesHeld (plan .size) bag (plan .replicas) (drop 2 (now (row .entry)))
-        → r ≡ length (commitPart (plan .size) bag (plan .replicas) (now (row .entry)))) ⌝ }
+    ensures size { λ r. ⌜ ((items : List ℕ)
+        → PlacesHeld (plan .size) items (plan .replicas) (drop 2 (now (row .entry)))
+        → r ≡ length (commitPart (plan .size) items (plan .replicas) (now (row .entry)))) ⌝ }
     ensures most { λ r. ⌜ r ≤ commitMost ⌝ }
 {
     if row[0] == 0 {
@@ -330,10 +330,10 @@ fn commit_size(row: &[usize], plan: Plan) -> usize
 fn leads_size(plan: Plan, taken: &[usize]) -> usize
     requires { ⌜ (plan .width ≤ widthMost) × (plan .size ≤ signatureMost) × (plan .replicas ≤ replicasMost)
         × (plan .leaders ≤ leaderMost) × (takenSize * plan .leaders ≤ length (now taken)) ⌝ }
-    ensures size { λ r. ⌜ ((bag votes : List ℕ) → RowsInside bag plan (now (taken .entry))
+    ensures size { λ r. ⌜ ((items votes : List ℕ) → RowsInside items plan (now (taken .entry))
         → voteHead + voteTail (plan .width) * plan .leaders ≤ length votes
-        → r ≡ length (leadersPart bag plan votes (now (taken .entry)))
-        + length (stampsPart bag plan (now (taken .entry)))) ⌝ }
+        → r ≡ length (leadersPart items plan votes (now (taken .entry)))
+        + length (stampsPart items plan (now (taken .entry)))) ⌝ }
     ensures most { λ r. ⌜ r ≤ leadMost * plan .leaders ⌝ }
 {
     let leaders = plan.leaders;
@@ -353,13 +353,13 @@ fn leads_size(plan: Plan, taken: &[usize]) -> usize
 pub fn written_size(
     roster: &[u8],
     log: &[u8],
-    bag: &[u8],
+    items: &[u8],
     votes: &[u8],
     plan: Plan,
     taken: &[usize],
 ) -> usize
-    requires { ⌜ Planned (now roster) (now log) (now bag) (now votes) plan (now taken) ⌝ }
-    ensures { λ r. ⌜ r ≡ length (bytesTaken (now (roster .entry)) (now (log .entry)) (now (bag .entry)) plan
+    requires { ⌜ Planned (now roster) (now log) (now items) (now votes) plan (now taken) ⌝ }
+    ensures { λ r. ⌜ r ≡ length (bytesTaken (now (roster .entry)) (now (log .entry)) (now (items .entry)) plan
         (now (taken .entry))) ⌝ }
 {
     let row = TAKEN_SIZE * plan.leaders;
@@ -373,23 +373,23 @@ pub fn write(
     out: &mut [u8],
     roster: &[u8],
     log: &[u8],
-    bag: &[u8],
+    items: &[u8],
     votes: &[u8],
     plan: Plan,
     taken: &[usize],
 ) -> usize
-    requires { ⌜ Planned (now roster) (now log) (now bag) (now votes) plan (now taken)
-        × (length (bytesTaken (now roster) (now log) (now bag) plan (now taken)) ≤ length (now out)) ⌝ }
-    ensures size { λ r. ⌜ r ≡ length (bytesTaken (now (roster .entry)) (now (log .entry)) (now (bag .entry))
+    requires { ⌜ Planned (now roster) (now log) (now items) (now votes) plan (now taken)
+        × (length (bytesTaken (now roster) (now log) (now items) plan (now taken)) ≤ length (now out)) ⌝ }
+    ensures size { λ r. ⌜ r ≡ length (bytesTaken (now (roster .entry)) (now (log .entry)) (now (items .entry))
         plan (now (taken .entry))) ⌝ }
     ensures bytes { λ _. ⌜ now (out .exit)
-        ≡ over (bytesTaken (now (roster .entry)) (now (log .entry)) (now (bag .entry)) plan
+        ≡ over (bytesTaken (now (roster .entry)) (now (log .entry)) (now (items .entry)) plan
         (now (taken .entry))) (now (out .entry)) ⌝ }
 {
     let first = log.len();
     words::put_bytes(out, 0, log);
     let rest = &mut out[first..];
-    let sizes = put_certified(rest, bag, votes, plan, taken);
+    let sizes = put_certified(rest, items, votes, plan, taken);
     let fields = trailer_fields(plan, first, sizes);
     let at = first + (sizes.leaders + (sizes.stamps + sizes.commit));
     let end = &mut out[at..];

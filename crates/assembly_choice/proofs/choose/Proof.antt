@@ -36,7 +36,7 @@ try-all-requires c κs =
     let long : length (found .find-stamps .last .1 .1 .1 .1 .0) ≡ 576 = found .find-stamps .ensures .1 .1 ∙ length-replicate {A = ℕ} 576 0 in
     let stamps : replicasMost * a .terms .count ≤ length (found .find-stamps .last .1 .1 .1 .1 .0) = omega (arith, long, p .0 .count) in
     let taken : takenSize * a .terms .count ≤ length (cleared .clear .last .0) = omega (arith, cleared .clear .ensures .1, p .3) in
-    (p .0, p .1, stamps, taken, found .find-stamps .ensures .1 .0, held-none (a .terms .size) (a .bag .now) (replicas (a .roster .now)) (a .terms .count) _ (cleared .clear .ensures .0))
+    (p .0, p .1, stamps, taken, found .find-stamps .ensures .1 .0, held-none (a .terms .size) (a .items .now) (replicas (a .roster .now)) (a .terms .count) _ (cleared .clear .ensures .0))
 
 all-taken-requires : tie.Need-all-taken-requires
 all-taken-requires c κs =
@@ -63,10 +63,10 @@ returns c =
     let found = cleared .before .before .before in
     let start = found .before .before .before .before .before .before .before in
     let a = start .args in (
-      leaders-chosen (a .roster .now) (a .bag .now) (a .terms) (a .votes .now) (a .stamps .now) _ _ (c .all-taken .ensures)
+      leaders-chosen (a .roster .now) (a .items .now) (a .terms) (a .votes .now) (a .stamps .now) _ _ (c .all-taken .ensures)
           (λ rs all votes stamps.
           done .1 .0 rs all votes (found .find-stamps .ensures .0 rs all stamps)
-          (tried-none (a .roster .now) (a .bag .now) (a .terms) rs (cleared .clear .last .0) (cleared .clear .ensures .0))),
+          (tried-none (a .roster .now) (a .items .now) (a .terms) rs (cleared .clear .last .0) (cleared .clear .ensures .0))),
       (done .1 .1 .0, (done .0, (done .1 .1 .1 .0, done .1 .1 .1 .1 ∙ cleared .clear .ensures .1))),
     )
 

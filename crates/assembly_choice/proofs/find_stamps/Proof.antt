@@ -32,7 +32,7 @@ returns c =
     let found = c .before .before .find-copies in
     let start = c .before .before .before .before .before .before .before .before in
     let a = start .args in
-    (λ rs all wanted. stamps-placed (a .roster .now) (a .bag .now) (a .terms) (start .pre .0 .fine) rs all (a .stamps .now) _ (found .ensures .0) wanted, found .ensures .1)
+    (λ rs all wanted. stamps-placed (a .roster .now) (a .items .now) (a .terms) (start .pre .0 .fine) rs all (a .stamps .now) _ (found .ensures .0) wanted, found .ensures .1)
 
 pub find-stamps-spec : {M : Type 1} → statement M
 find-stamps-spec = tie.close (tie.spec (λ c. search needs) (λ c. search needs) find-copies-requires same-length returns)

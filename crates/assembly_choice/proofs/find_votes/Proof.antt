@@ -56,8 +56,8 @@ returns c =
     let a = start .args in
     let kept = ap length (put .put-u16 .ensures) ∙ length-sets (a .votes .now) 17 (be 2 (a .candidate)) in (
       λ rs last all wanted.
-          let named = votes-for (a .roster .now) (a .bag .now) (a .terms) (start .pre .0 .fine) rs all last (a .candidate) (a .votes .now) _ (put .put-u16 .ensures) wanted in
-          (named, votes-placed (a .roster .now) (a .bag .now) (a .terms) (start .pre .0 .fine) rs all (a .candidate) (put .put-u16 .last .0) _ (found .ensures .0) named),
+          let named = votes-for (a .roster .now) (a .items .now) (a .terms) (start .pre .0 .fine) rs all last (a .candidate) (a .votes .now) _ (put .put-u16 .ensures) wanted in
+          (named, votes-placed (a .roster .now) (a .items .now) (a .terms) (start .pre .0 .fine) rs all (a .candidate) (put .put-u16 .last .0) _ (found .ensures .0) named),
       (found .ensures .1 .0, (kept, found .ensures .1 .1)),
     )
 

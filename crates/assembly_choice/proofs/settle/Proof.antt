@@ -55,7 +55,7 @@ loop-again c =
     let put = rw part at (c .before .before .put-row .ensures) in
     let next =
     settled-put (a .n) (a .candidate) (a .voted .now) (a .stamped .now) (a .taken .now) (l .taken) (l .t) (tested .before .before .mask-of .result)
-    (λ S bag. rw part at (tested .before .before .mask-of .ensures S bag))
+    (λ S itemBytes. rw part at (tested .before .before .mask-of .ensures S itemBytes))
     (l .inv .2) (l .inv .3) room (omega arith) (sym (tested .before .is-electable .ensures) ∙ tested .if1 .taken) in
     (omega arith, ap length put ∙ simp length-sets (l .inv .1), rw put (next .0), rw put (next .1))
 
@@ -67,7 +67,7 @@ loop-again-2 c =
     let part = part-end (a .voted .now) (9 * l .t) in
     let next =
     settled-left (a .n) (a .candidate) (a .voted .now) (a .stamped .now) (a .taken .now) (l .taken) (l .t) (c .before .before .mask-of .result)
-    (λ S bag. rw part at (c .before .before .mask-of .ensures S bag))
+    (λ S itemBytes. rw part at (c .before .before .mask-of .ensures S itemBytes))
     (l .inv .2) (l .inv .3) (sym (c .before .is-electable .ensures) ∙ c .if1 .left) in
     (omega arith, l .inv .1, next .0, next .1)
 

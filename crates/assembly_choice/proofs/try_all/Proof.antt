@@ -18,16 +18,16 @@ use Rattle.assembly_choice.proofs.try_all.Statement.{statement}
 use Rattle.assembly_choice.proofs.try_all.Tie as tie
 
 abbrev Inv-loop : tie.InvT-loop
-Inv-loop roster bag votes₀ stamped terms taken₀ candidate₀ votes taken candidate =
+Inv-loop roster itemBytes votes₀ stamped terms taken₀ candidate₀ votes taken candidate =
     let n = replicas roster in
     let form = withTerms (terms .width) (cluster roster) in
-    (candidate ≤ n) × (length votes ≡ length votes₀) × (length taken ≡ length taken₀) × RowsHeld (terms .size) bag n (terms .count) taken
+    (candidate ≤ n) × (length votes ≡ length votes₀) × (length taken ≡ length taken₀) × RowsHeld (terms .size) itemBytes n (terms .count) taken
     × ((rs : List Run) → length rs ≡ terms .count → VotesIn form 0 rs votes₀ → VotesIn form (lastTried n candidate) rs votes)
-    × ((rs : List Run) → length rs ≡ terms .count → VotesIn form 0 rs votes₀ → StampsPlaced roster bag terms rs stamped
-    → Tried roster bag terms rs n taken₀ → Tried roster bag terms rs candidate taken)
+    × ((rs : List Run) → length rs ≡ terms .count → VotesIn form 0 rs votes₀ → StampsPlaced roster itemBytes terms rs stamped
+    → Tried roster itemBytes terms rs n taken₀ → Tried roster itemBytes terms rs candidate taken)
 
 abbrev μ-loop : tie.MeasureT-loop
-μ-loop roster bag votes₀ stamped terms taken₀ candidate₀ votes taken candidate = candidate
+μ-loop roster itemBytes votes₀ stamped terms taken₀ candidate₀ votes taken candidate = candidate
 
 replicas-requires : tie.Need-replicas-requires Inv-loop μ-loop
 replicas-requires c κs =

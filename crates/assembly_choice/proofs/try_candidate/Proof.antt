@@ -69,9 +69,9 @@ returns c =
       λ rs last all wanted. found .find-votes .ensures .0 rs last all wanted .0,
       (
         λ rs last all wanted stamps tried.
-            tried-next (a .roster .now) (a .bag .now) (a .terms) rs (a .candidate) (p .3) (p .4) (s .high) _ (a .stamped .now) (a .taken .now) _ (found .find-votes .ensures .0 rs last all wanted .1) stamps rows tried,
+            tried-next (a .roster .now) (a .items .now) (a .terms) rs (a .candidate) (p .3) (p .4) (s .high) _ (a .stamped .now) (a .taken .now) _ (found .find-votes .ensures .0 rs last all wanted .1) stamps rows tried,
         (
-          held-next (a .terms .size) (a .bag .now) (replicas (a .roster .now)) (a .candidate) (a .terms .count) (p .3) (p .4) (s .high) _ (a .stamped .now) (a .taken .now) _ rows (found .find-votes .ensures .1 .0) (p .6) (p .7),
+          held-next (a .terms .size) (a .items .now) (replicas (a .roster .now)) (a .candidate) (a .terms .count) (p .3) (p .4) (s .high) _ (a .stamped .now) (a .taken .now) _ rows (found .find-votes .ensures .1 .0) (p .6) (p .7),
           (found .find-votes .ensures .1 .1 .0, settled .settle .ensures .1),
         ),
       ),

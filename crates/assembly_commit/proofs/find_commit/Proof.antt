@@ -23,15 +23,15 @@ use Rattle.assembly_commit.proofs.find_commit.Statement.{statement}
 use Rattle.assembly_commit.proofs.find_commit.Tie as tie
 
 abbrev Inv-loop : tie.InvT-loop
-Inv-loop roster log bag widths row₀ table records n quorum places₀ i₀ row places i =
+Inv-loop roster log itemBytes widths row₀ table records n quorum places₀ i₀ row places i =
     let form = withTerms (widths .width) (cluster roster) in
-    let items = itemsOf (widths .width) (widths .size) bag in
+    let items = itemsOf (widths .width) (widths .size) itemBytes in
     let log = recordsOf (widths .width) (widths .records) log in
     (i ≤ widths .records) × (commitTo form roster items (widths .records) log ≡ commitTo form roster items i log)
     × (length places ≡ replicasMost) × (row ≡ row₀)
 
 abbrev μ-loop : tie.MeasureT-loop
-μ-loop roster log bag widths row₀ table records n quorum places₀ i₀ row places i = i
+μ-loop roster log itemBytes widths row₀ table records n quorum places₀ i₀ row places i = i
 
 put-checkpoints-requires : tie.Need-put-checkpoints-requires Inv-loop μ-loop
 unfolding tableSize
@@ -104,18 +104,18 @@ returns c =
     let room : replicasMost ≤ length places = omega (arith, find .find-receipts .ensures .1 .1, l .inv .2) in
     let made = put .put-row .ensures ∙ ap (λ r. sets r 0 (l .i ∷ 0 ∷ take replicasMost places)) (l .inv .3) ∙ row-made (a .row .now) places (l .i) (p .1) room in
     let form = withTerms (a .widths .width) (cluster (a .roster .now)) in
-    let items = itemsOf (a .widths .width) S (a .bag .now) in
+    let items = itemsOf (a .widths .width) S (a .items .now) in
     let log = recordsOf (a .widths .width) (a .widths .records) (a .log .now) in
-    let e = enough form (a .roster .now) items log S _ _ _ (l .i) (a .bag .now) places (asked .before .mask-of .ensures S (a .bag .now)) n-is
+    let e = enough form (a .roster .now) items log S _ _ _ (l .i) (a .items .now) places (asked .before .mask-of .ensures S (a .items .now)) n-is
     (known .quorum .ensures) (find .find-receipts .ensures .0) in
     let high : quorum (replicas (a .roster .now)) ≤ ones (signersOf (receiptsFor form (a .roster .now) items (l .i) log)) =
     omega (arith, asked .if1 .taken, e .0, e .1) in
     let positive : 0 < l .i = omega arith in
     let few = sizes _ (p .0 .fine) .high in
-    let row = row-of S (a .bag .now) (replicas (a .roster .now)) (l .i) places _ positive few (find .find-receipts .ensures .0) in (
-      l .inv .1 ∙ commit-here form (a .roster .now) items log (l .i) positive high ∙ row ∙ ap (commitIn S (a .bag .now) (replicas (a .roster .now))) (sym made),
+    let row = row-of S (a .items .now) (replicas (a .roster .now)) (l .i) places _ positive few (find .find-receipts .ensures .0) in (
+      l .inv .1 ∙ commit-here form (a .roster .now) items log (l .i) positive high ∙ row ∙ ap (commitIn S (a .items .now) (replicas (a .roster .now))) (sym made),
       (
-        rw made (row-held S (a .bag .now) (a .widths .records) (l .i) places (l .inv .0) (find .find-receipts .ensures .1 .0)),
+        rw made (row-held S (a .items .now) (a .widths .records) (l .i) places (l .inv .0) (find .find-receipts .ensures .1 .0)),
         ap length (put .put-row .ensures) ∙ length-sets (l .row) 0 (l .i ∷ 0 ∷ take replicasMost places) ∙ ap length (l .inv .3) ∙ p .1,
       ),
     )
@@ -130,9 +130,9 @@ loop-again c =
     let places = find .find-receipts .last .1 .1 .1 .1 .1 .1 .0 in
     let S = a .widths .size in
     let form = withTerms (a .widths .width) (cluster (a .roster .now)) in
-    let items = itemsOf (a .widths .width) S (a .bag .now) in
+    let items = itemsOf (a .widths .width) S (a .items .now) in
     let log = recordsOf (a .widths .width) (a .widths .records) (a .log .now) in
-    let e = enough form (a .roster .now) items log S _ _ _ (l .i) (a .bag .now) places (c .before .mask-of .ensures S (a .bag .now))
+    let e = enough form (a .roster .now) items log S _ _ _ (l .i) (a .items .now) places (c .before .mask-of .ensures S (a .items .now))
     (known .before .replicas .ensures .0) (known .quorum .ensures) (find .find-receipts .ensures .0) in
     let low : ones (signersOf (receiptsFor form (a .roster .now) items (l .i) log)) < quorum (replicas (a .roster .now)) =
     omega (arith, c .if1 .left, e .0, e .1) in
@@ -163,11 +163,11 @@ returns-2 c =
     let a = start .args in
     let S = a .widths .size in
     let form = withTerms (a .widths .width) (cluster (a .roster .now)) in
-    let items = itemsOf (a .widths .width) S (a .bag .now) in
+    let items = itemsOf (a .widths .width) S (a .items .now) in
     let log = recordsOf (a .widths .width) (a .widths .records) (a .log .now) in
     let empty = clear .clear .ensures .0 in (
-      l .inv .1 ∙ commit-none form (a .roster .now) items log (l .i) (omega arith) ∙ row-none S (a .bag .now) (replicas (a .roster .now)) _ (empty 0 (omega arith)),
-      (row-empty S (a .bag .now) (a .widths .records) _ empty, clear .clear .ensures .1 ∙ ap length (l .inv .3) ∙ start .pre .1),
+      l .inv .1 ∙ commit-none form (a .roster .now) items log (l .i) (omega arith) ∙ row-none S (a .items .now) (replicas (a .roster .now)) _ (empty 0 (omega arith)),
+      (row-empty S (a .items .now) (a .widths .records) _ empty, clear .clear .ensures .1 ∙ ap length (l .inv .3) ∙ start .pre .1),
     )
 
 pub find-commit-spec : {M : Type 1} → statement M

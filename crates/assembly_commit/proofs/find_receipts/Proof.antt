@@ -67,7 +67,7 @@ returns c =
     ∙ ap (λ t. placeStatement 2 (cluster (a .roster .now)) w t (a .i) (bytesOf (read .pointer-at .result))) (read .before .last-term .ensures)
     ∙ receipt-said w (a .widths .records) (a .log .now) (cluster (a .roster .now)) _ (a .i) (p .1) (read .pointer-at .ensures) in
     let first = find .find-copies .ensures .0 0 (omega arith) in (
-      first ∙ ap (λ m. copies (a .roster .now) m (itemsOf w (a .widths .size) (a .bag .now))) (whole-statement _ _ 0 refl ∙ said),
+      first ∙ ap (λ m. copies (a .roster .now) m (itemsOf w (a .widths .size) (a .items .now))) (whole-statement _ _ 0 refl ∙ said),
       (find .find-copies .ensures .1 .0, find .find-copies .ensures .1 .1),
     )
 

@@ -17,22 +17,22 @@ returns : tie.Need-returns
 returns c =
     let start = c .before .before .before .before in
     let a = start .args in
-    refuses (a .roster .now) (a .bag .now) (a .wanted .now) (a .sought) (a .item) (start .pre .2) (start .pre .1)
-    (other-length (a .roster .now) (a .bag .now) (a .wanted .now) (a .sought) (a .item) (start .pre .2) (start .pre .1) (λ e. omega (arith, e)))
+    refuses (a .roster .now) (a .items .now) (a .wanted .now) (a .sought) (a .item) (start .pre .2) (start .pre .1)
+    (other-length (a .roster .now) (a .items .now) (a .wanted .now) (a .sought) (a .item) (start .pre .2) (start .pre .1) (λ e. omega (arith, e)))
 
 returns-2 : tie.Need-returns-2
 returns-2 c =
     let start = c .before .before .before .before .before in
     let a = start .args in
-    refuses (a .roster .now) (a .bag .now) (a .wanted .now) (a .sought) (a .item) (start .pre .2) (start .pre .1)
-    (other-length (a .roster .now) (a .bag .now) (a .wanted .now) (a .sought) (a .item) (start .pre .2) (start .pre .1) (λ e. c .if2 .taken (omega (arith, e))))
+    refuses (a .roster .now) (a .items .now) (a .wanted .now) (a .sought) (a .item) (start .pre .2) (start .pre .1)
+    (other-length (a .roster .now) (a .items .now) (a .wanted .now) (a .sought) (a .item) (start .pre .2) (start .pre .1) (λ e. c .if2 .taken (omega (arith, e))))
 
 returns-3 : tie.Need-returns-3
 returns-3 c =
     let start = c .before .before .before .before .before .before in
     let a = start .args in
-    refuses (a .roster .now) (a .bag .now) (a .wanted .now) (a .sought) (a .item) (start .pre .2) (start .pre .1)
-    (no-replica (a .roster .now) (a .bag .now) (a .wanted .now) (a .sought) (a .item) (start .pre .2) (c .if3 .taken))
+    refuses (a .roster .now) (a .items .now) (a .wanted .now) (a .sought) (a .item) (start .pre .2) (start .pre .1)
+    (no-replica (a .roster .now) (a .items .now) (a .wanted .now) (a .sought) (a .item) (start .pre .2) (c .if3 .taken))
 
 replicas-requires : tie.Need-replicas-requires
 replicas-requires c κs =
@@ -44,8 +44,8 @@ returns-4 : tie.Need-returns-4
 returns-4 c =
     let start = c .before .before .before .before .before .before .before .before in
     let a = start .args in
-    refuses (a .roster .now) (a .bag .now) (a .wanted .now) (a .sought) (a .item) (start .pre .2) (start .pre .1)
-    (beyond (a .roster .now) (a .bag .now) (a .wanted .now) (a .sought) (a .item) (start .pre .2) (omega (arith, c .before .replicas .ensures .0)))
+    refuses (a .roster .now) (a .items .now) (a .wanted .now) (a .sought) (a .item) (start .pre .2) (start .pre .1)
+    (beyond (a .roster .now) (a .items .now) (a .wanted .now) (a .sought) (a .item) (start .pre .2) (omega (arith, c .before .replicas .ensures .0)))
 
 part-same-end : tie.Need-part-same-end
 part-same-end c = omega (arith, c .before .before .before .before .before .before .before .before .pre .2)
@@ -63,7 +63,7 @@ returns-5 c =
     let size : a .item .statement + a .sought .head - a .item .statement ≡ a .sought .head = omega arith in
     let long : a .item .signature ≡ a .item .statement + (a .sought .head + a .sought .tail) =
     omega (arith, start .pre .2, asked .before .before .before .before .if1 .left, asked .before .before .before .if2 .left) in
-    decides (a .roster .now) (a .bag .now) (a .wanted .now) (a .sought) (a .item) (start .pre .2) (start .pre .1) long
+    decides (a .roster .now) (a .items .now) (a .wanted .now) (a .sought) (a .item) (start .pre .2) (start .pre .1) long
     (omega (arith, asked .before .before .if3 .left)) (omega (arith, asked .before .replicas .ensures .0)) (rw size at (c .same .ensures))
 
 pub alike-spec : {M : Type 1} → statement M

@@ -12,10 +12,10 @@ use Rattle.assembly_copies.proofs.find_copies.Statement.{statement}
 use Rattle.assembly_copies.proofs.find_copies.Tie as tie
 
 abbrev Inv-loop : tie.InvT-loop
-Inv-loop roster bag wanted sought rows₀ count at₀ rows at = Walked roster bag wanted sought (length rows₀) rows at
+Inv-loop roster itemBytes wanted sought rows₀ count at₀ rows at = Walked roster itemBytes wanted sought (length rows₀) rows at
 
 abbrev μ-loop : tie.MeasureT-loop
-μ-loop roster bag wanted sought rows₀ count at₀ rows at = length bag - at
+μ-loop roster itemBytes wanted sought rows₀ count at₀ rows at = length itemBytes - at
 
 mul-clear : tie.Need-mul-clear Inv-loop μ-loop
 mul-clear c = omega (arith, c .before .before .before .before .before .pre .cells)
@@ -28,8 +28,8 @@ loop-holds c =
     let cleared = c .before .before in
     let start = cleared .before .before .before .before .before .before in
     let a = start .args in
-    walked-none (a .roster .now) (a .bag .now) (a .wanted .now) (a .sought) (length (cleared .clear .last .0))
-    (searched-room (a .roster .now) (a .bag .now) (a .wanted .now) (a .sought) (cleared .clear .ensures .1) (start .pre)) (cleared .clear .last .0) refl
+    walked-none (a .roster .now) (a .items .now) (a .wanted .now) (a .sought) (length (cleared .clear .last .0))
+    (searched-room (a .roster .now) (a .items .now) (a .wanted .now) (a .sought) (cleared .clear .ensures .1) (start .pre)) (cleared .clear .last .0) refl
     (cleared .clear .ensures .0)
 
 read-requires : tie.Need-read-requires Inv-loop μ-loop
@@ -42,7 +42,7 @@ returns c =
     let looped = c .before .before .before .before in
     let a = looped .before .before .before .before .before .before .before .before .before .args in
     absurd
-    (never (a .roster .now) (a .bag .now) (a .wanted .now) (a .sought) _ (looped .loop .rows) (looped .loop .at) (looped .loop .inv) (omega arith)
+    (never (a .roster .now) (a .items .now) (a .wanted .now) (a .sought) _ (looped .loop .rows) (looped .loop .at) (looped .loop .inv) (omega arith)
     (sym (c .before .before .read .ensures) ∙ c .enum-told .given .1))
 
 alike-requires : tie.Need-alike-requires Inv-loop μ-loop
@@ -52,7 +52,7 @@ alike-requires c κs =
     let a = start .args in (
       start .pre .fine,
       start .pre .inside,
-      item-lies (a .sought .width) (a .sought .size) (a .bag .now) (looped .loop .at) (sym (c .before .before .before .read .ensures) ∙ c .before .item .given .1),
+      item-lies (a .sought .width) (a .sought .size) (a .items .now) (looped .loop .at) (sym (c .before .before .before .read .ensures) ∙ c .before .item .given .1),
     )
 
 offer-requires : tie.Need-offer-requires Inv-loop μ-loop
@@ -68,7 +68,7 @@ offer-requires c κs =
       inside = start .pre .inside;
       cells = omega (arith, start .pre .cells, looped .loop .inv .long, cleared .clear .ensures .1);
       placed = looped .loop .inv .placed;
-      lies = item-lies (a .sought .width) (a .sought .size) (a .bag .now) (looped .loop .at)
+      lies = item-lies (a .sought .width) (a .sought .size) (a .items .now) (looped .loop .at)
           (sym (told .before .before .before .read .ensures) ∙ told .before .item .given .1);
       alike = c .before .before .alike .ensures .0 (c .before .if1 .taken);
     }
@@ -79,7 +79,7 @@ loop-less c =
     let looped = told .before .before .before .before .before in
     let a = looped .before .before .before .before .before .before .before .before .before .args in
     let here =
-    stands (a .sought .width) (a .sought .size) (a .bag .now) (looped .loop .at)
+    stands (a .sought .width) (a .sought .size) (a .items .now) (looped .loop .at)
     (sym (told .before .before .before .read .ensures) ∙ told .before .item .given .1) in
     omega (arith, here, told .before .before .before .before .loop-test)
 
@@ -89,7 +89,7 @@ loop-again c =
     let looped = told .before .before .before .before .before in
     let a = looped .before .before .before .before .before .before .before .before .before .args in
     let given = c .before .before .offer .ensures in
-    walked-taken (a .roster .now) (a .bag .now) (a .wanted .now) (a .sought) _ (looped .loop .rows) (looped .loop .at) (looped .loop .inv) (search needs)
+    walked-taken (a .roster .now) (a .items .now) (a .wanted .now) (a .sought) _ (looped .loop .rows) (looped .loop .at) (looped .loop .inv) (search needs)
     (sym (told .before .before .before .read .ensures) ∙ told .before .item .given .1) _ (given .0) (given .1 .0) (given .1 .1)
 
 loop-less-2 : tie.Need-loop-less-2 Inv-loop μ-loop
@@ -98,7 +98,7 @@ loop-less-2 c =
     let looped = told .before .before .before .before .before in
     let a = looped .before .before .before .before .before .before .before .before .before .args in
     let here =
-    stands (a .sought .width) (a .sought .size) (a .bag .now) (looped .loop .at)
+    stands (a .sought .width) (a .sought .size) (a .items .now) (looped .loop .at)
     (sym (told .before .before .before .read .ensures) ∙ told .before .item .given .1) in
     omega (arith, here)
 
@@ -107,7 +107,7 @@ loop-again-2 c =
     let told = c .before .before in
     let looped = told .before .before .before .before .before in
     let a = looped .before .before .before .before .before .before .before .before .before .args in
-    walked-unlike (a .roster .now) (a .bag .now) (a .wanted .now) (a .sought) _ (looped .loop .rows) (looped .loop .at) (looped .loop .inv) (search needs)
+    walked-unlike (a .roster .now) (a .items .now) (a .wanted .now) (a .sought) _ (looped .loop .rows) (looped .loop .at) (looped .loop .inv) (search needs)
     (sym (told .before .before .before .read .ensures) ∙ told .before .item .given .1) (c .before .alike .ensures .1 (c .if1 .left))
 
 returns-2 : tie.Need-returns-2 Inv-loop μ-loop
@@ -117,8 +117,8 @@ returns-2 c =
     let start = cleared .before .before .before .before .before .before in
     let a = start .args in
     let room = cleared .clear .ensures .1 in (
-      walked-all (a .roster .now) (a .bag .now) (a .wanted .now) (a .sought) _
-          (searched-room (a .roster .now) (a .bag .now) (a .wanted .now) (a .sought) room (start .pre)) (looped .loop .rows) (looped .loop .at) (looped .loop .inv)
+      walked-all (a .roster .now) (a .items .now) (a .wanted .now) (a .sought) _
+          (searched-room (a .roster .now) (a .items .now) (a .wanted .now) (a .sought) room (start .pre)) (looped .loop .rows) (looped .loop .at) (looped .loop .inv)
           (omega arith),
       (looped .loop .inv .placed, looped .loop .inv .long ∙ room),
     )

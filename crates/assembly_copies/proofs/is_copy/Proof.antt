@@ -27,7 +27,7 @@ signature-genuine-requires c κs =
     let start = c .before .before .before .before .before .before .before .before in
     let a = start .args in
     let long =
-    length-take-le (a .item .signature - a .item .statement) (drop (a .item .statement) (a .bag .now))
+    length-take-le (a .item .signature - a .item .statement) (drop (a .item .statement) (a .items .now))
     (rw length-drop (omega (arith, start .pre .6, start .pre .7))) in
     (start .pre .1, key-inside (a .roster .now) (start .pre .0) (a .item .replica) (start .pre .2), omega (arith, long, start .pre .3))
 

@@ -11,10 +11,10 @@ use Rattle.assembly_copies.proofs.offer.Statement.{statement}
 use Rattle.assembly_copies.proofs.offer.Tie as tie
 
 abbrev Inv-loop : tie.InvT-loop
-Inv-loop roster bag wanted sought item rows₀ signature count k column m₀ rows m = Turned roster bag wanted sought item rows₀ rows m
+Inv-loop roster itemBytes wanted sought item rows₀ signature count k column m₀ rows m = Turned roster itemBytes wanted sought item rows₀ rows m
 
 abbrev μ-loop : tie.MeasureT-loop
-μ-loop roster bag wanted sought item rows₀ signature count k column m₀ rows m = count - m
+μ-loop roster itemBytes wanted sought item rows₀ signature count k column m₀ rows m = count - m
 
 cast-column : tie.Need-cast-column Inv-loop μ-loop
 cast-column c = search needs
@@ -26,7 +26,7 @@ loop-holds : tie.Need-loop-holds Inv-loop μ-loop
 loop-holds c =
     let start = c .before .before .before .before in
     let a = start .args in
-    turned-none (a .roster .now) (a .bag .now) (a .wanted .now) (a .sought) (a .item) (a .rows .now) (start .pre .placed)
+    turned-none (a .roster .now) (a .items .now) (a .wanted .now) (a .sought) (a .item) (a .rows .now) (start .pre .placed)
 
 mul-cell : tie.Need-mul-cell Inv-loop μ-loop
 mul-cell c = omega (arith, c .before .before .before .before .before .before .pre .cells)
@@ -101,7 +101,7 @@ loop-again c =
     let a = start .args in
     let p = start .pre in
     let size : a .sought .head + a .sought .tail * looped .loop .m + a .sought .tail - (a .sought .head + a .sought .tail * looped .loop .m) ≡ a .sought .tail = omega arith in
-    turn-taken (a .roster .now) (a .bag .now) (a .wanted .now) (a .sought) (a .item) (a .rows .now) (sizes (a .roster .now) (p .fine) .high) (p .lies) (p .alike)
+    turn-taken (a .roster .now) (a .items .now) (a .wanted .now) (a .sought) (a .item) (a .rows .now) (sizes (a .roster .now) (p .fine) .high) (p .lies) (p .alike)
     (looped .loop .m) (omega arith) (looped .loop .rows) (looped .loop .inv) (p .inside) (p .cells) (c .before .before .before .if1 .taken)
     (sym (rw size at (c .before .is-copy .ensures)) ∙ c .if2 .taken)
 
@@ -112,7 +112,7 @@ loop-again-2 c =
     let a = start .args in
     let p = start .pre in
     let size : a .sought .head + a .sought .tail * looped .loop .m + a .sought .tail - (a .sought .head + a .sought .tail * looped .loop .m) ≡ a .sought .tail = omega arith in
-    turn-unfit (a .roster .now) (a .bag .now) (a .wanted .now) (a .sought) (a .item) (a .rows .now) (sizes (a .roster .now) (p .fine) .high) (p .lies) (p .alike)
+    turn-unfit (a .roster .now) (a .items .now) (a .wanted .now) (a .sought) (a .item) (a .rows .now) (sizes (a .roster .now) (p .fine) .high) (p .lies) (p .alike)
     (looped .loop .m) (omega arith) (looped .loop .rows) (looped .loop .inv) (p .inside) (sym (rw size at (c .before .is-copy .ensures)) ∙ c .if2 .left)
 
 loop-again-3 : tie.Need-loop-again-3 Inv-loop μ-loop
@@ -121,14 +121,14 @@ loop-again-3 c =
     let start = looped .before .before .before .before .before in
     let a = start .args in
     let p = start .pre in
-    turn-had (a .roster .now) (a .bag .now) (a .wanted .now) (a .sought) (a .item) (a .rows .now) (sizes (a .roster .now) (p .fine) .high) (p .lies) (p .alike)
+    turn-had (a .roster .now) (a .items .now) (a .wanted .now) (a .sought) (a .item) (a .rows .now) (sizes (a .roster .now) (p .fine) .high) (p .lies) (p .alike)
     (looped .loop .m) (omega arith) (looped .loop .rows) (looped .loop .inv) (c .if1 .left)
 
 returns : tie.Need-returns Inv-loop μ-loop
 returns c =
     let a = c .before .before .before .before .before .before .args in
     let l = c .before .loop in (
-      turned-all (a .roster .now) (a .bag .now) (a .wanted .now) (a .sought) (a .item) (a .rows .now) (l .rows) (l .m) (l .inv) (omega arith),
+      turned-all (a .roster .now) (a .items .now) (a .wanted .now) (a .sought) (a .item) (a .rows .now) (l .rows) (l .m) (l .inv) (omega arith),
       (l .inv .placed, l .inv .room),
     )
 

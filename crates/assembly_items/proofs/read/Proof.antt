@@ -10,24 +10,24 @@ use Rattle.assembly_items.proofs.read.Tie as tie
 returns : tie.Need-returns
 returns c =
     let a = c .before .before .args in
-    no-byte (a .width) (a .size) (a .bag .now) (a .at) (omega arith)
+    no-byte (a .width) (a .size) (a .items .now) (a .at) (omega arith)
 
 returns-2 : tie.Need-returns-2
 returns-2 c =
     let a = c .before .before .before .before .before .args in
-    no-kind (a .width) (a .size) (a .bag .now) (a .at) (sym (c .before .statement-size .ensures .0) ∙ c .if2 .taken)
+    no-kind (a .width) (a .size) (a .items .now) (a .at) (sym (c .before .statement-size .ensures .0) ∙ c .if2 .taken)
 
 returns-3 : tie.Need-returns-3
 returns-3 c =
     let sized = c .before .before in
     let a = sized .before .before .before .before .args in
-    cut-off (a .width) (a .size) (a .bag .now) (a .at) (omega (arith, sized .statement-size .ensures .0))
+    cut-off (a .width) (a .size) (a .items .now) (a .at) (omega (arith, sized .statement-size .ensures .0))
 
 returns-4 : tie.Need-returns-4
 returns-4 c =
     let sized = c .before .before .before in
     let a = sized .before .before .before .before .args in
-    reads (a .width) (a .size) (a .bag .now) (a .at) (c .u16-at .ensures .0) (sized .statement-size .ensures .0) (c .before .before .if2 .left)
+    reads (a .width) (a .size) (a .items .now) (a .at) (c .u16-at .ensures .0) (sized .statement-size .ensures .0) (c .before .before .if2 .left)
     (search needs)
 
 pub read-spec : {M : Type 1} → statement M

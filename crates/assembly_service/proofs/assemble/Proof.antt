@@ -14,8 +14,8 @@ returns : tie.Need-returns
 returns c =
     let asked = c .before in
     let a = asked .before .before .before .before .before .before .args in
-    let r = roster-refuses (a .roster .now) (a .log .now) (a .bag .now) (a .output .now) (asked .before .validate .ensures) (asked .if1 .taken) in
-    refusal-answers (a .roster .now) (a .log .now) (a .bag .now) (a .output .now) (c .refused .ensures) r (asked .if1 .taken)
+    let r = roster-refuses (a .roster .now) (a .log .now) (a .items .now) (a .output .now) (asked .before .validate .ensures) (asked .if1 .taken) in
+    refusal-answers (a .roster .now) (a .log .now) (a .items .now) (a .output .now) (c .refused .ensures) r (asked .if1 .taken)
 
 signature-size-requires : tie.Need-signature-size-requires
 signature-size-requires c κs =
@@ -31,8 +31,8 @@ returns-2 c =
     let a = asked .before .before .before .before .before .before .args in
     let fine = sym (asked .before .validate .ensures) ∙ asked .if1 .left in
     let number = rw (counted .before .before .signature-size .ensures .0) at (counted .before .input-number .ensures) in
-    let r = input-refuses (a .roster .now) (a .log .now) (a .bag .now) (a .output .now) fine number (counted .if2 .taken) in
-    refusal-answers (a .roster .now) (a .log .now) (a .bag .now) (a .output .now) (c .refused2 .ensures) r (counted .if2 .taken)
+    let r = input-refuses (a .roster .now) (a .log .now) (a .items .now) (a .output .now) fine number (counted .if2 .taken) in
+    refusal-answers (a .roster .now) (a .log .now) (a .items .now) (a .output .now) (c .refused2 .ensures) r (counted .if2 .taken)
 
 assemble-checked-requires : tie.Need-assemble-checked-requires
 unfolding formOf version1
@@ -42,7 +42,7 @@ assemble-checked-requires c κs =
     let a = asked .before .before .before .before .before .before .args in
     let fine = sym (asked .before .validate .ensures) ∙ asked .if1 .left in
     let number = rw (counted .before .before .signature-size .ensures .0) at (counted .before .input-number .ensures) in
-    checked (a .roster .now) (a .log .now) (a .bag .now) fine (sym number ∙ counted .if2 .left)
+    checked (a .roster .now) (a .log .now) (a .items .now) fine (sym number ∙ counted .if2 .left)
 
 pub assemble-spec : {M : Type 1} → statement M
 assemble-spec =

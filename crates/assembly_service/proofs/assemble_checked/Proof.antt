@@ -24,7 +24,7 @@ returns c =
     let take = c .before .before .before .before .before .before in
     let start = take .before .before .before .before .before .before .before .before in
     let a = start .args in
-    missing-answers (a .roster .now) (a .log .now) (a .bag .now) (a .output .now) (start .pre) _ _ _ (take .take-rows .ensures)
+    missing-answers (a .roster .now) (a .log .now) (a .items .now) (a .output .now) (start .pre) _ _ _ (take .take-rows .ensures)
     (c .before .enum-told .given .1) (c .refused .ensures)
 
 signature-size-requires : tie.Need-signature-size-requires
@@ -48,7 +48,7 @@ written-size-requires c κs =
     let start = take .before .before .before .before .before .before .before .before in
     let a = start .args in
     let plan = plan-given (a .roster .now) (a .log .now) _ _ _ _ (sized .before .before .signature-size .ensures .0) (sized .before .replicas .ensures .0) (sized .record-size .ensures .0) in
-    plan-held (a .roster .now) (a .log .now) (a .bag .now) (a .output .now) (start .pre) _ _ _ (take .take-rows .ensures) _ _ (told .leaders .given .1) plan
+    plan-held (a .roster .now) (a .log .now) (a .items .now) (a .output .now) (start .pre) _ _ _ (take .take-rows .ensures) _ _ (told .leaders .given .1) plan
 
 returns-2 : tie.Need-returns-2
 returns-2 c =
@@ -59,7 +59,7 @@ returns-2 c =
     let start = take .before .before .before .before .before .before .before .before in
     let a = start .args in
     let plan = plan-given (a .roster .now) (a .log .now) _ _ _ _ (sized .before .before .signature-size .ensures .0) (sized .before .replicas .ensures .0) (sized .record-size .ensures .0) in
-    short-answers (a .roster .now) (a .log .now) (a .bag .now) (a .output .now) (start .pre) _ _ _ (take .take-rows .ensures) _ _ (told .leaders .given .1) plan
+    short-answers (a .roster .now) (a .log .now) (a .items .now) (a .output .now) (start .pre) _ _ _ (take .take-rows .ensures) _ _ (told .leaders .given .1) plan
     (asked .before .written-size .ensures) (asked .if1 .taken) (c .refused2 .ensures)
 
 write-requires : tie.Need-write-requires
@@ -71,7 +71,7 @@ write-requires c κs =
     let start = take .before .before .before .before .before .before .before .before in
     let a = start .args in
     let plan = plan-given (a .roster .now) (a .log .now) _ _ _ _ (sized .before .before .signature-size .ensures .0) (sized .before .replicas .ensures .0) (sized .record-size .ensures .0) in (
-      plan-held (a .roster .now) (a .log .now) (a .bag .now) (a .output .now) (start .pre) _ _ _ (take .take-rows .ensures) _ _ (told .leaders .given .1) plan,
+      plan-held (a .roster .now) (a .log .now) (a .items .now) (a .output .now) (start .pre) _ _ _ (take .take-rows .ensures) _ _ (told .leaders .given .1) plan,
       omega (arith, asked .before .written-size .ensures, asked .if1 .left),
     )
 
@@ -85,7 +85,7 @@ returns-3 c =
     let start = take .before .before .before .before .before .before .before .before in
     let a = start .args in
     let plan = plan-given (a .roster .now) (a .log .now) _ _ _ _ (sized .before .before .signature-size .ensures .0) (sized .before .replicas .ensures .0) (sized .record-size .ensures .0) in
-    written-answers (a .roster .now) (a .log .now) (a .bag .now) (a .output .now) (start .pre) _ _ _ (take .take-rows .ensures) _ _ (told .leaders .given .1) plan
+    written-answers (a .roster .now) (a .log .now) (a .items .now) (a .output .now) (start .pre) _ _ _ (take .take-rows .ensures) _ _ (told .leaders .given .1) plan
     (asked .before .written-size .ensures) (omega (arith, asked .if1 .left)) (write .write .ensures .0) (write .write .ensures .1)
 
 pub assemble-checked-spec : {M : Type 1} → statement M

@@ -23,8 +23,8 @@ returns c =
     let k = a .at + takenSize - a .at in (
       row-kept (a .taken .now) row (a .at) k inside,
       (
-        commit-put (a .taken .now) row (a .at) k inside (a .roster .now) (a .log .now) (a .bag .now) (a .widths) few (e .1 .1) (e .0),
-        (held-put (a .taken .now) row (a .at) k inside (a .widths .size) (a .bag .now) (a .widths .records) (e .1 .1) (e .1 .0), search needs),
+        commit-put (a .taken .now) row (a .at) k inside (a .roster .now) (a .log .now) (a .items .now) (a .widths) few (e .1 .1) (e .0),
+        (held-put (a .taken .now) row (a .at) k inside (a .widths .size) (a .items .now) (a .widths .records) (e .1 .1) (e .1 .0), search needs),
       ),
     )
 

@@ -30,13 +30,13 @@ put-wanted-requires c κs =
     let a = start .args in
     let ok = start .pre .0 in
     let s = sizes _ (ok .fine) in
-    let few = few-records (a .roster .now) (a .log .now) (a .bag .now) ok in
+    let few = few-records (a .roster .now) (a .log .now) (a .items .now) ok in
     rw (c .before .before .record-size .ensures .0) (
       omega (arith, s .size),
       omega arith,
       omega (arith, few),
-      le-of-eq (whole-log (a .roster .now) (a .log .now) (a .bag .now) ok),
-      few-terms (a .roster .now) (a .log .now) (a .bag .now) ok,
+      le-of-eq (whole-log (a .roster .now) (a .log .now) (a .items .now) ok),
+      few-terms (a .roster .now) (a .log .now) (a .items .now) ok,
       start .pre .1,
       start .pre .2,
     )
@@ -51,7 +51,7 @@ choose-requires c κs =
     let ok = start .pre .0 in
     let size = sized .before .signature-size .ensures in
     let terms = rw (sized .record-size .ensures .0) at (put .put-wanted .ensures .0) in
-    let few = few-terms (a .roster .now) (a .log .now) (a .bag .now) ok in
+    let few = few-terms (a .roster .now) (a .log .now) (a .items .now) ok in
     let rooms = put .put-wanted .ensures .1 .1 .1 in (
       record { fine = ok .fine; width = omega arith; size = size .1; items = rw (size .0) (ok .items); count = omega (arith, terms, few) },
       omega (arith, rooms .0, start .pre .1),
@@ -67,7 +67,7 @@ returns c =
     let start = sized .before .before .before .before .before .before .before .before in
     let a = start .args in
     let e = put .put-wanted .ensures in
-    missing-given (a .roster .now) (a .log .now) (a .bag .now) (start .pre .0) _ _ (sized .before .signature-size .ensures .0)
+    missing-given (a .roster .now) (a .log .now) (a .items .now) (start .pre .0) _ _ (sized .before .signature-size .ensures .0)
     (sized .record-size .ensures .0) _ _ _ _ _ (e .0) (e .1 .0) (e .1 .1 .0) (choose .choose .ensures .0) (not-true _ (c .if1 .taken)) _ _
 
 mul-take-commit : tie.Need-mul-take-commit
@@ -78,7 +78,7 @@ mul-take-commit c =
     let start = sized .before .before .before .before .before .before .before .before in
     let a = start .args in
     let terms = rw (sized .record-size .ensures .0) at (put .put-wanted .ensures .0) in
-    let few = few-terms (a .roster .now) (a .log .now) (a .bag .now) (start .pre .0) in
+    let few = few-terms (a .roster .now) (a .log .now) (a .items .now) (start .pre .0) in
     search (needs, terms, few)
 
 take-commit-requires : tie.Need-take-commit-requires
@@ -93,15 +93,15 @@ take-commit-requires c κs =
     let size = sized .before .signature-size .ensures in
     let each = sized .record-size .ensures .0 in
     let terms = rw each at (put .put-wanted .ensures .0) in
-    let few = few-terms (a .roster .now) (a .log .now) (a .bag .now) ok in
+    let few = few-terms (a .roster .now) (a .log .now) (a .items .now) ok in
     let rooms = choose .choose .ensures .1 .1 .1 in (
       record {
         fine = ok .fine;
         width = omega arith;
         size = size .1;
         items = rw (size .0) (ok .items);
-        records = rw each (few-records (a .roster .now) (a .log .now) (a .bag .now) ok);
-        logged = rw each (le-of-eq (whole-log (a .roster .now) (a .log .now) (a .bag .now) ok));
+        records = rw each (few-records (a .roster .now) (a .log .now) (a .items .now) ok);
+        logged = rw each (le-of-eq (whole-log (a .roster .now) (a .log .now) (a .items .now) ok));
       },
       omega (arith, terms, few, rooms .1, start .pre .3),
     )
@@ -117,7 +117,7 @@ returns-2 c =
     let e = put .put-wanted .ensures in
     let chosen = choose .choose .ensures in
     let taken = last .take-commit .ensures in
-    all-given (a .roster .now) (a .log .now) (a .bag .now) (start .pre .0) _ _ (sized .before .signature-size .ensures .0)
+    all-given (a .roster .now) (a .log .now) (a .items .now) (start .pre .0) _ _ (sized .before .signature-size .ensures .0)
     (sized .record-size .ensures .0) _ _ _ _ _ (e .0) (e .1 .0) (e .1 .1 .0) (chosen .0) (not-false _ (last .before .before .if1 .left)) _ _
     (chosen .1 .1 .0 _ (sym (e .0)) (e .1 .0)) (chosen .1 .0) (taken .0) (taken .1 .1 .1) (omega (arith, chosen .1 .1 .1 .1, start .pre .3))
     (taken .1 .0) (taken .1 .1 .0)

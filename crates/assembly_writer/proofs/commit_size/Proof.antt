@@ -15,19 +15,19 @@ use Rattle.assembly_writer.proofs.commit_size.Tie as tie
 returns : tie.Need-returns
 returns c =
     let a = c .before .before .before .args in
-    (λ bag held. commit-none (a .plan .size) bag (a .plan .replicas) (a .row .now) [] (c .if1 .taken) .0, omega arith)
+    (λ itemBytes held. commit-none (a .plan .size) itemBytes (a .plan .replicas) (a .row .now) [] (c .if1 .taken) .0, omega arith)
 
 returns-2 : tie.Need-returns-2
 returns-2 c =
     let branch = c .before .before in
     let a = branch .before .before .before .args in
     let long = rw (part-end (a .row .now) 2) at (c .signed-size .ensures .0) in (
-      λ bag held.
+      λ itemBytes held.
           omega (
             arith,
-            long bag held,
-            ap length (commit-some (a .plan .size) bag (a .plan .replicas) (a .row .now) [] (branch .if1 .left)),
-            length-append (be 4 (getD (a .row .now) 0 0)) (signedAt (a .plan .size) bag (a .plan .replicas) (drop 2 (a .row .now))),
+            long itemBytes held,
+            ap length (commit-some (a .plan .size) itemBytes (a .plan .replicas) (a .row .now) [] (branch .if1 .left)),
+            length-append (be 4 (getD (a .row .now) 0 0)) (signedAt (a .plan .size) itemBytes (a .plan .replicas) (drop 2 (a .row .now))),
             length-be 4 (getD (a .row .now) 0 0),
           ),
       omega (arith, c .signed-size .ensures .1),

@@ -15,13 +15,13 @@ returns c =
     let stamp = c .before .before .before in
     let a = c .before .before .before .before .before .before .args in
     let long = rw (part-end (a .row .now) 2) at (signed .signed-size .ensures .0) in (
-      λ bag end held place tail.
+      λ itemBytes end held place tail.
           omega (
             arith,
-            long bag held,
-            stamp .signature-size .ensures .0 bag place,
+            long itemBytes held,
+            stamp .signature-size .ensures .0 itemBytes place,
             c .ballot-size .ensures .0,
-            certificate-long (a .plan .size) bag (a .plan .replicas) end (a .row .now),
+            certificate-long (a .plan .size) itemBytes (a .plan .replicas) end (a .row .now),
             tail,
           ),
       omega (arith, signed .signed-size .ensures .1, stamp .signature-size .ensures .1, c .ballot-size .ensures .1),

@@ -16,14 +16,14 @@ use Rattle.assembly_writer.proofs.leads_size.Tie as tie
 abbrev Inv-loop : tie.InvT-loop
 Inv-loop plan taken leaders at₀ t₀ at t =
     (t ≤ leaders) × (at ≤ leadMost * t)
-    × ((bag votes : List ℕ) → RowsInside bag plan taken → voteHead + voteTail (plan .width) * plan .leaders ≤ length votes
-    → at ≡ leadsLength bag votes taken plan t)
+    × ((itemBytes votes : List ℕ) → RowsInside itemBytes plan taken → voteHead + voteTail (plan .width) * plan .leaders ≤ length votes
+    → at ≡ leadsLength itemBytes votes taken plan t)
 
 abbrev μ-loop : tie.MeasureT-loop
 μ-loop plan taken leaders at₀ t₀ at t = leaders - t
 
 loop-holds : tie.Need-loop-holds Inv-loop μ-loop
-loop-holds c = (omega arith, omega arith, λ bag votes held room. leads-none bag votes _ _)
+loop-holds c = (omega arith, omega arith, λ itemBytes votes held room. leads-none itemBytes votes _ _)
 
 lead-size-requires : tie.Need-lead-size-requires Inv-loop μ-loop
 lead-size-requires c κs =
@@ -45,9 +45,9 @@ loop-again c =
     let less : l .t < a .plan .leaders = omega arith in (
       omega arith,
       omega (arith, l .inv .1, c .lead-size .ensures .1),
-      λ bag votes held room.
-          leads-next bag votes (a .taken .now) (a .plan) held room (l .t) less (l .inv .2 bag votes held room)
-          (rw (row-part (a .taken .now) (l .t)) at (c .lead-size .ensures .0 bag (voteEndAt (a .plan .width) votes (l .t)))),
+      λ itemBytes votes held room.
+          leads-next itemBytes votes (a .taken .now) (a .plan) held room (l .t) less (l .inv .2 itemBytes votes held room)
+          (rw (row-part (a .taken .now) (l .t)) at (c .lead-size .ensures .0 itemBytes (voteEndAt (a .plan .width) votes (l .t)))),
     )
 
 returns : tie.Need-returns Inv-loop μ-loop
@@ -57,7 +57,7 @@ returns c =
     let start = c .before .before .before in
     let a = start .args in
     let all : l .t ≡ a .plan .leaders = omega arith in (
-      λ bag votes held room. l .inv .2 bag votes held room ∙ ap (leadsLength bag votes (a .taken .now) (a .plan)) all,
+      λ itemBytes votes held room. l .inv .2 itemBytes votes held room ∙ ap (leadsLength itemBytes votes (a .taken .now) (a .plan)) all,
       omega (arith, l .inv .1),
     )
 

@@ -13,25 +13,25 @@ put-u16-requires : tie.Need-put-u16-requires
 put-u16-requires c κs =
     let start = c .before .before .before .before .before .before in
     let a = start .args in
-    omega (arith, certificate-head (a .plan .size) (a .bag .now) (a .plan .replicas) (a .end .now) (a .row .now) (a .out .now) (start .pre .3))
+    omega (arith, certificate-head (a .plan .size) (a .items .now) (a .plan .replicas) (a .end .now) (a .row .now) (a .out .now) (start .pre .3))
 
 put-bytes-requires : tie.Need-put-bytes-requires
 put-bytes-requires c κs =
     let start = c .before .before .before .before .before .before .before .before .before .before in
     let a = start .args in
-    omega (arith, certificate-head (a .plan .size) (a .bag .now) (a .plan .replicas) (a .end .now) (a .row .now) (a .out .now) (start .pre .3))
+    omega (arith, certificate-head (a .plan .size) (a .items .now) (a .plan .replicas) (a .end .now) (a .row .now) (a .out .now) (start .pre .3))
 
 sub-rest : tie.Need-sub-rest
 sub-rest c =
     let start = c .before .before .before .before .before .before .before .before .before .before .before .before .before in
     let a = start .args in
-    omega (arith, certificate-head (a .plan .size) (a .bag .now) (a .plan .replicas) (a .end .now) (a .row .now) (a .out .now) (start .pre .3))
+    omega (arith, certificate-head (a .plan .size) (a .items .now) (a .plan .replicas) (a .end .now) (a .row .now) (a .out .now) (start .pre .3))
 
 part-rest-start : tie.Need-part-rest-start
 part-rest-start c =
     let start = c .before .before .before .before .before .before .before .before .before .before .before .before .before in
     let a = start .args in
-    omega (arith, certificate-head (a .plan .size) (a .bag .now) (a .plan .replicas) (a .end .now) (a .row .now) (a .out .now) (start .pre .3))
+    omega (arith, certificate-head (a .plan .size) (a .items .now) (a .plan .replicas) (a .end .now) (a .row .now) (a .out .now) (start .pre .3))
 
 put-signed-requires : tie.Need-put-signed-requires
 put-signed-requires c κs =
@@ -39,7 +39,7 @@ put-signed-requires c κs =
     let head = bytes .before .before .before .before in
     let start = head .before .before .before .before .before .before .before in
     let a = start .args in
-    let b = certificate-begun (a .plan .size) (a .bag .now) (a .plan .replicas) (a .end .now) (a .row .now) (a .out .now) (start .pre .3)
+    let b = certificate-begun (a .plan .size) (a .items .now) (a .plan .replicas) (a .end .now) (a .row .now) (a .out .now) (start .pre .3)
     (head .put-u16 .ensures) (bytes .put-bytes .ensures) in
     rw (part-end (a .row .now) 2) (start .pre .0, rest-room b)
 
@@ -50,7 +50,7 @@ add-result c =
     let head = bytes .before .before .before .before in
     let start = head .before .before .before .before .before .before .before in
     let a = start .args in
-    let b = certificate-begun (a .plan .size) (a .bag .now) (a .plan .replicas) (a .end .now) (a .row .now) (a .out .now) (start .pre .3)
+    let b = certificate-begun (a .plan .size) (a .items .now) (a .plan .replicas) (a .end .now) (a .row .now) (a .out .now) (start .pre .3)
     (head .put-u16 .ensures) (bytes .put-bytes .ensures) in
     let e = rw (part-end (a .row .now) 2) at (call .put-signed .ensures) in
     omega (arith, rest-inside b, begun-long b, e .0)
@@ -63,7 +63,7 @@ returns c =
     let head = bytes .before .before .before .before in
     let start = head .before .before .before .before .before .before .before in
     let a = start .args in
-    let b = certificate-begun (a .plan .size) (a .bag .now) (a .plan .replicas) (a .end .now) (a .row .now) (a .out .now) (start .pre .3)
+    let b = certificate-begun (a .plan .size) (a .items .now) (a .plan .replicas) (a .end .now) (a .row .now) (a .out .now) (start .pre .3)
     (head .put-u16 .ensures) (bytes .put-bytes .ensures) in
     let e = rw (part-end (a .row .now) 2) at (call .put-signed .ensures) in
     rest-put b (e .0) (e .1)

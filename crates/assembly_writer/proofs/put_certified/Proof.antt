@@ -16,28 +16,28 @@ put-leaders-requires : tie.Need-put-leaders-requires
 put-leaders-requires c κs =
     let start = c .before .before .before .before .before .before in
     let a = start .args in
-    (start .pre .0, start .pre .1, leaders-room (a .bag .now) (a .votes .now) (a .taken .now) (a .out .now) (a .plan) (start .pre .3))
+    (start .pre .0, start .pre .1, leaders-room (a .items .now) (a .votes .now) (a .taken .now) (a .out .now) (a .plan) (start .pre .3))
 
 sub-second : tie.Need-sub-second
 sub-second c =
     let first = c .before .before in
     let start = first .before .before .before .before .before .before .before in
     let a = start .args in
-    omega (arith, leaders-room (a .bag .now) (a .votes .now) (a .taken .now) (a .out .now) (a .plan) (start .pre .3), first .put-leaders .ensures .0)
+    omega (arith, leaders-room (a .items .now) (a .votes .now) (a .taken .now) (a .out .now) (a .plan) (start .pre .3), first .put-leaders .ensures .0)
 
 part-second-start : tie.Need-part-second-start
 part-second-start c =
     let first = c .before .before in
     let start = first .before .before .before .before .before .before .before in
     let a = start .args in
-    omega (arith, leaders-room (a .bag .now) (a .votes .now) (a .taken .now) (a .out .now) (a .plan) (start .pre .3), first .put-leaders .ensures .0)
+    omega (arith, leaders-room (a .items .now) (a .votes .now) (a .taken .now) (a .out .now) (a .plan) (start .pre .3), first .put-leaders .ensures .0)
 
 put-stamps-requires : tie.Need-put-stamps-requires
 put-stamps-requires c κs =
     let first = c .before .before .before in
     let start = first .before .before .before .before .before .before .before in
     let a = start .args in
-    let b = leaders-begun (a .bag .now) (a .votes .now) (a .taken .now) (a .out .now) (a .plan) (start .pre .3)
+    let b = leaders-begun (a .items .now) (a .votes .now) (a .taken .now) (a .out .now) (a .plan) (start .pre .3)
     (first .put-leaders .ensures .0) (first .put-leaders .ensures .1) in
     (start .pre .0, rest-room b)
 
@@ -47,7 +47,7 @@ add-at c =
     let first = second .before .before .before .before in
     let start = first .before .before .before .before .before .before .before in
     let a = start .args in
-    let b = leaders-begun (a .bag .now) (a .votes .now) (a .taken .now) (a .out .now) (a .plan) (start .pre .3)
+    let b = leaders-begun (a .items .now) (a .votes .now) (a .taken .now) (a .out .now) (a .plan) (start .pre .3)
     (first .put-leaders .ensures .0) (first .put-leaders .ensures .1) in
     omega (arith, rest-inside b, begun-long b, second .put-stamps .ensures .0)
 
@@ -57,7 +57,7 @@ sub-third c =
     let first = second .before .before .before .before in
     let start = first .before .before .before .before .before .before .before in
     let a = start .args in
-    let b = leaders-begun (a .bag .now) (a .votes .now) (a .taken .now) (a .out .now) (a .plan) (start .pre .3)
+    let b = leaders-begun (a .items .now) (a .votes .now) (a .taken .now) (a .out .now) (a .plan) (start .pre .3)
     (first .put-leaders .ensures .0) (first .put-leaders .ensures .1) in
     omega (arith, rest-inside b, begun-long b, second .put-stamps .ensures .0)
 
@@ -67,7 +67,7 @@ part-third-start c =
     let first = second .before .before .before .before in
     let start = first .before .before .before .before .before .before .before in
     let a = start .args in
-    let b = leaders-begun (a .bag .now) (a .votes .now) (a .taken .now) (a .out .now) (a .plan) (start .pre .3)
+    let b = leaders-begun (a .items .now) (a .votes .now) (a .taken .now) (a .out .now) (a .plan) (start .pre .3)
     (first .put-leaders .ensures .0) (first .put-leaders .ensures .1) in
     omega (arith, rest-inside b, begun-long b, second .put-stamps .ensures .0)
 
@@ -78,10 +78,10 @@ put-commit-requires c κs =
     let start = first .before .before .before .before .before .before .before in
     let a = start .args in
     let held = start .pre .0 in
-    let b = leaders-begun (a .bag .now) (a .votes .now) (a .taken .now) (a .out .now) (a .plan) (start .pre .3)
+    let b = leaders-begun (a .items .now) (a .votes .now) (a .taken .now) (a .out .now) (a .plan) (start .pre .3)
     (first .put-leaders .ensures .0) (first .put-leaders .ensures .1) in
     let two = rest-put b (second .put-stamps .ensures .0) (second .put-stamps .ensures .1) in
-    let d = stamps-begun (a .bag .now) (a .votes .now) (a .taken .now) (a .out .now) (a .plan) (start .pre .3) (two .0) (two .1) in
+    let d = stamps-begun (a .items .now) (a .votes .now) (a .taken .now) (a .out .now) (a .plan) (start .pre .3) (two .0) (two .1) in
     rw (part-end (a .taken .now) (takenSize * a .plan .leaders))
     (commit-row-places held, omega (arith, commit-row-long held), omega (arith, commit-row-first held, start .pre .2), rest-room d)
 
@@ -93,10 +93,10 @@ returns c =
     let first = second .before .before .before .before in
     let start = first .before .before .before .before .before .before .before in
     let a = start .args in
-    let b = leaders-begun (a .bag .now) (a .votes .now) (a .taken .now) (a .out .now) (a .plan) (start .pre .3)
+    let b = leaders-begun (a .items .now) (a .votes .now) (a .taken .now) (a .out .now) (a .plan) (start .pre .3)
     (first .put-leaders .ensures .0) (first .put-leaders .ensures .1) in
     let two = rest-put b (second .put-stamps .ensures .0) (second .put-stamps .ensures .1) in
-    let d = stamps-begun (a .bag .now) (a .votes .now) (a .taken .now) (a .out .now) (a .plan) (start .pre .3) (two .0) (two .1) in
+    let d = stamps-begun (a .items .now) (a .votes .now) (a .taken .now) (a .out .now) (a .plan) (start .pre .3) (two .0) (two .1) in
     let e = rw (part-end (a .taken .now) (takenSize * a .plan .leaders)) at (third .put-commit .ensures) in (
       record { leaders = first .put-leaders .ensures .0; stamps = second .put-stamps .ensures .0; commit = e .0 },
       rest-put d (e .0) (e .1) .1,

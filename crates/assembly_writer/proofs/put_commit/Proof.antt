@@ -14,27 +14,27 @@ use Rattle.assembly_writer.proofs.put_commit.Tie as tie
 returns : tie.Need-returns
 returns c =
     let a = c .before .before .before .before .before .args in
-    commit-none (a .plan .size) (a .bag .now) (a .plan .replicas) (a .row .now) (a .out .now) (c .if1 .taken)
+    commit-none (a .plan .size) (a .items .now) (a .plan .replicas) (a .row .now) (a .out .now) (c .if1 .taken)
 
 put-u32-requires : tie.Need-put-u32-requires
 put-u32-requires c κs =
     let start = c .before .before .before .before .before .before in
     let a = start .args in
-    omega (arith, commit-head (a .plan .size) (a .bag .now) (a .plan .replicas) (a .row .now) (a .out .now) (c .before .if1 .left) (start .pre .3))
+    omega (arith, commit-head (a .plan .size) (a .items .now) (a .plan .replicas) (a .row .now) (a .out .now) (c .before .if1 .left) (start .pre .3))
 
 sub-rest : tie.Need-sub-rest
 sub-rest c =
     let branch = c .before .before .before .before in
     let start = branch .before .before .before .before .before in
     let a = start .args in
-    omega (arith, commit-head (a .plan .size) (a .bag .now) (a .plan .replicas) (a .row .now) (a .out .now) (branch .if1 .left) (start .pre .3))
+    omega (arith, commit-head (a .plan .size) (a .items .now) (a .plan .replicas) (a .row .now) (a .out .now) (branch .if1 .left) (start .pre .3))
 
 part-rest-start : tie.Need-part-rest-start
 part-rest-start c =
     let branch = c .before .before .before .before in
     let start = branch .before .before .before .before .before in
     let a = start .args in
-    omega (arith, commit-head (a .plan .size) (a .bag .now) (a .plan .replicas) (a .row .now) (a .out .now) (branch .if1 .left) (start .pre .3))
+    omega (arith, commit-head (a .plan .size) (a .items .now) (a .plan .replicas) (a .row .now) (a .out .now) (branch .if1 .left) (start .pre .3))
 
 put-signed-requires : tie.Need-put-signed-requires
 put-signed-requires c κs =
@@ -42,7 +42,7 @@ put-signed-requires c κs =
     let branch = head .before .before in
     let start = branch .before .before .before .before .before in
     let a = start .args in
-    let b = commit-begun (a .plan .size) (a .bag .now) (a .plan .replicas) (a .row .now) (a .out .now) (branch .if1 .left) (start .pre .3)
+    let b = commit-begun (a .plan .size) (a .items .now) (a .plan .replicas) (a .row .now) (a .out .now) (branch .if1 .left) (start .pre .3)
     (head .put-u32 .ensures) in
     rw (part-end (a .row .now) 2) (start .pre .0, rest-room b)
 
@@ -53,7 +53,7 @@ add-result c =
     let branch = head .before .before in
     let start = branch .before .before .before .before .before in
     let a = start .args in
-    let b = commit-begun (a .plan .size) (a .bag .now) (a .plan .replicas) (a .row .now) (a .out .now) (branch .if1 .left) (start .pre .3)
+    let b = commit-begun (a .plan .size) (a .items .now) (a .plan .replicas) (a .row .now) (a .out .now) (branch .if1 .left) (start .pre .3)
     (head .put-u32 .ensures) in
     let e = rw (part-end (a .row .now) 2) at (call .put-signed .ensures) in
     omega (arith, rest-inside b, begun-long b, e .0)
@@ -65,8 +65,8 @@ returns-2 c =
     let branch = head .before .before in
     let start = branch .before .before .before .before .before in
     let a = start .args in
-    let some = commit-some (a .plan .size) (a .bag .now) (a .plan .replicas) (a .row .now) (a .out .now) (branch .if1 .left) in
-    let b = commit-begun (a .plan .size) (a .bag .now) (a .plan .replicas) (a .row .now) (a .out .now) (branch .if1 .left) (start .pre .3)
+    let some = commit-some (a .plan .size) (a .items .now) (a .plan .replicas) (a .row .now) (a .out .now) (branch .if1 .left) in
+    let b = commit-begun (a .plan .size) (a .items .now) (a .plan .replicas) (a .row .now) (a .out .now) (branch .if1 .left) (start .pre .3)
     (head .put-u32 .ensures) in
     let e = rw (part-end (a .row .now) 2) at (call .put-signed .ensures) in
     let put = rest-put b (e .0) (e .1) in

@@ -12,11 +12,11 @@ use Rattle.assembly_writer.proofs.put_leaders.Statement.{statement}
 use Rattle.assembly_writer.proofs.put_leaders.Tie as tie
 
 abbrev Inv-loop : tie.InvT-loop
-Inv-loop out₀ bag votes plan taken leaders tail at₀ t₀ out at t =
-    PartsPut (certificatePart bag plan votes taken) out₀ leaders t at out
+Inv-loop out₀ itemBytes votes plan taken leaders tail at₀ t₀ out at t =
+    PartsPut (certificatePart itemBytes plan votes taken) out₀ leaders t at out
 
 abbrev μ-loop : tie.MeasureT-loop
-μ-loop out₀ bag votes plan taken leaders tail at₀ t₀ out at t = leaders - t
+μ-loop out₀ itemBytes votes plan taken leaders tail at₀ t₀ out at t = leaders - t
 
 loop-holds : tie.Need-loop-holds Inv-loop μ-loop
 loop-holds c = parts-none _ _ _
@@ -61,7 +61,7 @@ put-certificate-requires c κs =
       rw row (row-places held (l .t) within),
       rw row (omega (arith, row-long held (l .t) within)),
       rw row (row-first held (l .t) within less),
-      rw (certificate-part (a .bag .now) (a .votes .now) (a .taken .now) (a .plan) _ (l .t) (c .before .before .before .before .before .vote-tail .ensures .0))
+      rw (certificate-part (a .items .now) (a .votes .now) (a .taken .now) (a .plan) _ (l .t) (c .before .before .before .before .before .vote-tail .ensures .0))
           (part-room _ _ _ (start .pre .2) (l .inv) less),
     )
 
@@ -72,7 +72,7 @@ add-at c =
     let start = call .before .before .before .before .before .before .before .before .before .before .before in
     let a = start .args in
     let less : l .t < a .plan .leaders = omega arith in
-    let part = certificate-part (a .bag .now) (a .votes .now) (a .taken .now) (a .plan) _ (l .t) (call .before .before .before .before .before .before .vote-tail .ensures .0) in
+    let part = certificate-part (a .items .now) (a .votes .now) (a .taken .now) (a .plan) _ (l .t) (call .before .before .before .before .before .before .vote-tail .ensures .0) in
     omega (arith, part-inside _ _ _ (start .pre .2) (l .inv) less, call .put-certificate .ensures .0 ∙ ap length part)
 
 loop-again : tie.Need-loop-again Inv-loop μ-loop
@@ -82,7 +82,7 @@ loop-again c =
     let start = call .before .before .before .before .before .before .before .before .before .before .before in
     let a = start .args in
     let less : l .t < a .plan .leaders = omega arith in
-    let part = certificate-part (a .bag .now) (a .votes .now) (a .taken .now) (a .plan) _ (l .t) (call .before .before .before .before .before .before .vote-tail .ensures .0) in
+    let part = certificate-part (a .items .now) (a .votes .now) (a .taken .now) (a .plan) _ (l .t) (call .before .before .before .before .before .before .vote-tail .ensures .0) in
     let e = rw part at (call .put-certificate .ensures) in
     part-put _ _ _ (start .pre .2) (l .inv) less (e .0) (e .1)
 

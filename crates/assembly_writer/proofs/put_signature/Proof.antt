@@ -10,21 +10,21 @@ use Rattle.assembly_writer.proofs.put_signature.Statement.{statement}
 use Rattle.assembly_writer.proofs.put_signature.Tie as tie
 
 returns : tie.Need-returns
-returns c = let a = c .before .before .before .args in none-put (a .size) (a .bag .now) (a .place) (a .out .now) (c .if1 .taken)
+returns c = let a = c .before .before .before .args in none-put (a .size) (a .items .now) (a .place) (a .out .now) (c .if1 .taken)
 
 put-bytes-requires : tie.Need-put-bytes-requires
 put-bytes-requires c κs =
     let start = c .before .before .before .before .before in
     let a = start .args in
-    omega (arith, ap lib.ListN.length (signature-part (a .size) (a .bag .now) (a .place) (c .before .before .if1 .left)), start .pre .1)
+    omega (arith, ap lib.ListN.length (signature-part (a .size) (a .items .now) (a .place) (c .before .before .if1 .left)), start .pre .1)
 
 returns-2 : tie.Need-returns-2
 returns-2 c =
     let branch = c .before .before .before .before .before in
     let start = branch .before .before .before in
     let a = start .args in
-    let part = signature-part (a .size) (a .bag .now) (a .place) (branch .if1 .left) in (
-      signature-long (a .size) (a .bag .now) (a .place) (branch .if1 .left) (start .pre .0),
+    let part = signature-part (a .size) (a .items .now) (a .place) (branch .if1 .left) in (
+      signature-long (a .size) (a .items .now) (a .place) (branch .if1 .left) (start .pre .0),
       c .before .before .put-bytes .ensures ∙ ap (sets (a .out .now) 0) part ∙ over-first (a .out .now) _ (start .pre .1),
     )
 

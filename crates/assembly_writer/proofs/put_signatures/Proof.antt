@@ -11,10 +11,10 @@ use Rattle.assembly_writer.proofs.put_signatures.Statement.{statement}
 use Rattle.assembly_writer.proofs.put_signatures.Tie as tie
 
 abbrev Inv-loop : tie.InvT-loop
-Inv-loop out₀ bag size n places at₀ k₀ out at k = PartsPut (λ j. signatureAt size bag (getD places j 0)) out₀ n k at out
+Inv-loop out₀ itemBytes size n places at₀ k₀ out at k = PartsPut (λ j. signatureAt size itemBytes (getD places j 0)) out₀ n k at out
 
 abbrev μ-loop : tie.MeasureT-loop
-μ-loop out₀ bag size n places at₀ k₀ out at k = n - k
+μ-loop out₀ itemBytes size n places at₀ k₀ out at k = n - k
 
 loop-holds : tie.Need-loop-holds Inv-loop μ-loop
 loop-holds c = parts-none _ _ _

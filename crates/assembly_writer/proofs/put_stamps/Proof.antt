@@ -11,11 +11,11 @@ use Rattle.assembly_writer.proofs.put_stamps.Statement.{statement}
 use Rattle.assembly_writer.proofs.put_stamps.Tie as tie
 
 abbrev Inv-loop : tie.InvT-loop
-Inv-loop out₀ bag taken leaders size at₀ t₀ out at t =
-    PartsPut (λ j. signatureAt size bag (getD taken (takenSize * j + 1) 0)) out₀ leaders t at out
+Inv-loop out₀ itemBytes taken leaders size at₀ t₀ out at t =
+    PartsPut (λ j. signatureAt size itemBytes (getD taken (takenSize * j + 1) 0)) out₀ leaders t at out
 
 abbrev μ-loop : tie.MeasureT-loop
-μ-loop out₀ bag taken leaders size at₀ t₀ out at t = leaders - t
+μ-loop out₀ itemBytes taken leaders size at₀ t₀ out at t = leaders - t
 
 loop-holds : tie.Need-loop-holds Inv-loop μ-loop
 loop-holds c = parts-none _ _ _

@@ -20,8 +20,8 @@ returns c =
     omega (
       arith,
       written-long plan known,
-      c .before .before .leads-size .ensures .0 (a .bag .now) (a .votes .now) (rows-held plan) (votes-room plan),
-      commit (a .bag .now) (commit-row-places (rows-held plan)),
+      c .before .before .leads-size .ensures .0 (a .items .now) (a .votes .now) (rows-held plan) (votes-room plan),
+      commit (a .items .now) (commit-row-places (rows-held plan)),
     )
 
 pub written-size-spec : {M : Type 1} → statement M

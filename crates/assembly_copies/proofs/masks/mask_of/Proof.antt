@@ -15,7 +15,7 @@ use Rattle.assembly_copies.proofs.masks.mask_of.Tie as tie
 
 abbrev Inv-loop : tie.InvT-loop
 Inv-loop places n mask₀ k₀ mask k =
-    (k ≤ n) × (mask < 2 ^ (n - k)) × ((S : ℕ) (bag : List ℕ) → mask ≡ signersOf (copiesAt S bag (n - k) (drop k places)))
+    (k ≤ n) × (mask < 2 ^ (n - k)) × ((S : ℕ) (itemBytes : List ℕ) → mask ≡ signersOf (copiesAt S itemBytes (n - k) (drop k places)))
 
 abbrev μ-loop : tie.MeasureT-loop
 μ-loop places n mask₀ k₀ mask k = k
@@ -24,7 +24,7 @@ loop-holds : tie.Need-loop-holds Inv-loop μ-loop
 loop-holds c =
     let a = c .args in
     let none : a .n - a .n ≡ 0 = omega arith in
-    (omega arith, rw none (omega arith), λ S bag. signers-none S bag (a .places .now) (a .n))
+    (omega arith, rw none (omega arith), λ S itemBytes. signers-none S itemBytes (a .places .now) (a .n))
 
 mul-mask : tie.Need-mul-mask Inv-loop μ-loop
 mul-mask c =
@@ -47,20 +47,20 @@ loop-again c =
     let l = c .before .before .before .loop in
     let a = c .before .before .before .before .args in
     let bits = bits-step (a .n) (l .k) (omega arith) (l .inv .0) (l .mask) (l .inv .1) in
-    (omega arith, bits, λ S bag. signers-present S bag (a .places .now) (a .n) (l .k) (omega arith) (l .inv .0) (omega arith) (l .mask) (l .inv .2 S bag) (c .if1 .taken))
+    (omega arith, bits, λ S itemBytes. signers-present S itemBytes (a .places .now) (a .n) (l .k) (omega arith) (l .inv .0) (omega arith) (l .mask) (l .inv .2 S itemBytes) (c .if1 .taken))
 
 loop-again-2 : tie.Need-loop-again-2 Inv-loop μ-loop
 loop-again-2 c =
     let l = c .before .before .before .loop in
     let a = c .before .before .before .before .args in
     let bits = bits-step (a .n) (l .k) (omega arith) (l .inv .0) (l .mask) (l .inv .1) in
-    (omega arith, omega arith, λ S bag. signers-absent S bag (a .places .now) (a .n) (l .k) (omega arith) (l .inv .0) (omega arith) (l .mask) (l .inv .2 S bag) (c .if1 .left))
+    (omega arith, omega arith, λ S itemBytes. signers-absent S itemBytes (a .places .now) (a .n) (l .k) (omega arith) (l .inv .0) (omega arith) (l .mask) (l .inv .2 S itemBytes) (c .if1 .left))
 
 returns : tie.Need-returns Inv-loop μ-loop
 returns c =
     let l = c .before .loop in
     let end : l .k ≡ 0 = omega arith in
-    λ S bag. rw (end, sub-zero) at (l .inv .2 S bag)
+    λ S itemBytes. rw (end, sub-zero) at (l .inv .2 S itemBytes)
 
 pub mask-of-spec : {M : Type 1} → statement M
 mask-of-spec =
