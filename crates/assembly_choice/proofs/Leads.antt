@@ -5,11 +5,11 @@ use mathlib.Core.Bool.{Bool, true, false, cond}
 use mathlib.Core.List.{List, [], _∷_}
 use mathlib.Core.Logic.{⊎-elim}
 use mathlib.Core.Option.{some, none}
-use Prim.Native.Nat.{ℕ, suc, _+_, _*_, _<_}
+use Prim.Native.Nat.{ℕ, suc, _<_}
 use native.Mathlib.Omega.{arith}
 use lib.Dec.{eqb}
 use lib.ListN.{length, getD, take, drop}
-use lib.Seq.{drop-drop, getD-take}
+use lib.Seq.{getD-take}
 use Rattle.refusal.proofs.Laws.{look}
 use Rattle.roster.specs.Roster.{replicas}
 use Rattle.log_chain.specs.Log.{Form}
@@ -18,13 +18,8 @@ use Rattle.submission.specs.View.{Lead}
 use Rattle.assembly.specs.Items.{Item}
 use Rattle.assembly.specs.Choice.{andThen, leadFrom, leadsFor}
 use Rattle.assembly_copies.specs.Rows.{takenSize, leadsIn, rowAt}
+use Rattle.assembly_copies.proofs.Taken.{row-later}
 use Rattle.assembly_choice.specs.Settled.{allTaken, leadOfRow, termAt}
-
--- the rows after the first
-row-later : (taken : List ℕ) (t : ℕ) → rowAt (drop takenSize taken) t ≡ rowAt taken (suc t)
-row-later taken t =
-    let next : takenSize + takenSize * t ≡ takenSize * suc t = omega arith in
-    rw (drop-drop (takenSize * t) takenSize taken, next)
 
 -- one, and then others
 and-then : (l : Lead) (b : Bool) (ls : List Lead) → andThen (some l) (cond b (some ls) none) ≡ cond b (some (l ∷ ls)) none

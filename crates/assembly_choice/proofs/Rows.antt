@@ -1,7 +1,7 @@
 -- A table row by row: a row that is put down is the only one that changes.
 -- Assumes nothing.
-use mathlib.Core.Path.{_≡_, refl, sym, ap, _∙_}
-use mathlib.Core.List.{List, [], _∷_, _++_, append-assoc}
+use mathlib.Core.Path.{_≡_, sym, ap, _∙_}
+use mathlib.Core.List.{List}
 use mathlib.Core.Logic.{_⊎_, inl, inr, ⊎-elim}
 use mathlib.Core.Bool.{true, false, cond}
 use Prim.Native.Nat.{ℕ, suc, _+_, _-_, _*_, _≤_, _<_}
@@ -9,34 +9,18 @@ use native.Mathlib.Omega.{arith}
 use native.Mathlib.Nat.{eq-or-lt-of-le, add-zero}
 use borrow.Author.Tests.{eq-eqb, ne-eqb, ltb-true, ltb-false}
 use lib.Dec.{eqb, ltb}
-use lib.ListN.{length, getD, take, drop, set}
-use lib.Seq.{sets, sets-eq, drop-at, take-at, drop-set-lt, drop-set-add, take-set-le, length-take-le, drop-drop, getD-drop}
+use lib.ListN.{length, getD, take, drop}
+use lib.Seq.{sets, drop-drop, getD-drop}
+use Rattle.words.proofs.Laws.{part-put, part-sets}
 use Rattle.refusal.proofs.Laws.{look}
 use Rattle.assembly_copies.specs.Rows.{takenSize, rowAt}
 use Rattle.assembly_choice.specs.Settled.{allTaken}
-
--- ---- a part that stores do not touch
-
-part-set : (l : List ℕ) (a n i v : ℕ) → (i < a) ⊎ (a + n ≤ i) → take n (drop a (set l i v)) ≡ take n (drop a l)
-part-set l a n i v (inl h) = rw (drop-set-lt a l i v h)
-part-set l a n i v (inr h) =
-    let there : i ≡ a + (i - a) = omega arith in
-    ap (λ (j : ℕ). take n (drop a (set l j v))) there
-    ∙ ap (take n) (drop-set-add a l (i - a) v)
-    ∙ take-set-le n (drop a l) (i - a) v (omega arith)
-
-part-sets : (vs l : List ℕ) (a n i : ℕ) → (i + length vs ≤ a) ⊎ (a + n ≤ i) → take n (drop a (sets l i vs)) ≡ take n (drop a l)
-part-sets [] l a n i h = refl
-part-sets (v ∷ vs) l a n i (inl h) = part-sets vs (set l i v) a n (suc i) (inl (omega arith)) ∙ part-set l a n i v (inl (omega arith))
-part-sets (v ∷ vs) l a n i (inr h) = part-sets vs (set l i v) a n (suc i) (inr (omega arith)) ∙ part-set l a n i v (inr h)
 
 -- ---- a row put down
 
 pub row-put : (l vs : List ℕ) (t : ℕ) → length vs ≡ takenSize → takenSize * t + takenSize ≤ length l → rowAt (sets l (takenSize * t) vs) t ≡ vs
 row-put l vs t size room =
-    let before : length (take (takenSize * t) l) ≡ takenSize * t = length-take-le (takenSize * t) l (omega arith) in
-    rw (sets-eq vs l (takenSize * t) (omega arith), append-assoc, drop-at (take (takenSize * t) l) (vs ++ drop (takenSize * t + length vs) l) (takenSize * t) before)
-    (take-at vs _ takenSize size)
+    ap (λ (n : ℕ). take n (drop (takenSize * t) (sets l (takenSize * t) vs))) (sym size) ∙ part-put l vs (takenSize * t) (omega arith)
 
 pub row-kept : (l vs : List ℕ) (t u : ℕ) → length vs ≡ takenSize → (u ≡ t → ⊥) → rowAt (sets l (takenSize * t) vs) u ≡ rowAt l u
 row-kept l vs t u size other =
@@ -47,8 +31,6 @@ row-kept l vs t u size other =
   where
     after : t ≤ u → takenSize * t + length vs ≤ takenSize * u
     after h = let later : t < u = ⊎-elim (λ e. absurd (other (sym e))) (λ k. k) (eq-or-lt-of-le h) in omega arith
-
--- ---- cells
 
 -- ---- whether each row has a candidate: one row after the other
 

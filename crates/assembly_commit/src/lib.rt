@@ -1,7 +1,7 @@
 // The commit (document 02, W3): the highest index with a quorum of receipts that fit the log. Indexes are
 // tried from the last down, so that a bag with receipts for every record costs those of one index.
 ghost use mathlib.Core.Path.{_≡_};
-ghost use Prim.Native.Nat.{_≤_, _<_};
+ghost use Prim.Native.Nat.{_≤_};
 ghost use lib.ListN.{length};
 ghost use Rattle.log_checkpoints.specs.Checkpoints.{Checkpoints, tableSize};
 ghost use Rattle.assembly_copies.specs.Rows.{replicasMost, takenSize, Placed};

@@ -12,7 +12,7 @@ use lib.Dec.{eqb}
 use lib.ListN.{length, take, drop, length-append, length-drop}
 use lib.Seq.{length-take-le, take-take, take-at, take-add, drop-drop}
 use Rattle.words.specs.BigEndian.{same}
-use Rattle.words.proofs.Same.{same-true}
+use Rattle.words.proofs.Same.{same-true, same-false, same-after}
 use Rattle.refusal.specs.Checks.{all}
 use Rattle.refusal.proofs.Laws.{look}
 use Rattle.lms.specs.Check.{good}
@@ -23,17 +23,6 @@ use Rattle.assembly_items.specs.Reader.{itemOf}
 use Rattle.assembly_copies.specs.declared.Sought.{Sought}
 use Rattle.assembly_copies.specs.Sought.{statementAt}
 use Rattle.assembly_copies.specs.Offers.{Lies, Alike, Unlike, isCopy}
-
--- ---- equal lists
-
-same-false : (xs ys : List ℕ) → (xs ≡ ys → ⊥) → same xs ys ≡ false
-same-false xs ys h = ⊎-elim (λ (e : same xs ys ≡ true). absurd (h (same-true xs ys e))) (λ e. e) (look (same xs ys))
-
--- a beginning that both have
-same-after : (xs ys zs : List ℕ) → same (xs ++ ys) (xs ++ zs) ≡ same ys zs
-unfolding same
-same-after [] ys zs = refl
-same-after (x ∷ xs) ys zs = rw (eq-eqb x x refl) (same-after xs ys zs)
 
 -- ---- one item
 

@@ -1,7 +1,7 @@
 // The items of a bag (document 02, W3): the reader, which gives where an item's parts stand, or a refusal;
 // and check 19. Over the term's width and the signature's length.
 ghost use mathlib.Core.Path.{_≡_};
-ghost use Prim.Native.Nat.{_+_, _≤_};
+ghost use Prim.Native.Nat.{_≤_};
 ghost use lib.ListN.{length};
 ghost use Rattle.words.specs.Widths.{widthMost};
 ghost use Rattle.roster.specs.Sizes.{signatureMost};
@@ -39,7 +39,7 @@ fn statement_size(width: usize, kind: u8) -> usize
     }
 }
 
-// The item at a place.
+// The item at a place; or a refusal, where its kind is none or the bag ends inside it.
 pub fn read(items: &[u8], at: usize, width: usize, size: usize) -> ItemReading
     requires { ⌜ (at ≤ length (now items)) × (width ≤ widthMost) × (size ≤ signatureMost) ⌝ }
     ensures { λ r. ⌜ r ≡ itemReading width size (now (items .entry)) at ⌝ }

@@ -2,11 +2,12 @@
 -- Assumes nothing.
 use mathlib.Core.Path.{_≡_, refl, sym, ap, _∙_}
 use mathlib.Core.List.{List, [], _∷_, _++_}
-use Prim.Native.Nat.{ℕ, _+_, _-_, _*_, _≤_, _<_}
+use Prim.Native.Nat.{ℕ, _+_, _*_, _≤_, _<_}
 use native.Mathlib.Omega.{arith}
 use borrow.Rule.Slice.PartMut.{putMid, take-put}
 use lib.ListN.{length, take, drop, getD, length-drop, List·getD-append}
-use lib.Seq.{take-take, take-add, drop-at, length-take-le, drop-append-le, take-append-le}
+use lib.Seq.{take-take, drop-at, length-take-le, drop-append-le, take-append-le}
+use Rattle.words.proofs.Laws.{drop-take}
 use Rattle.roster.specs.Roster.{replicas}
 use Rattle.log_chain.specs.Log.{Form}
 use Rattle.log_chain.specs.Runs.{Run}
@@ -15,11 +16,8 @@ use Rattle.assembly_commit.specs.Searched.{CommitFound, CommitRowHeld}
 use Rattle.assembly_copies.specs.Rows.{replicasMost, takenSize, copiesAt, leadIn, leadsIn, commitIn}
 
 -- what two lists begin with alike, after as many elements
-drop-alike : (t u : List ℕ) (a b : ℕ) → a ≤ length t → a ≤ length u → take (a + b) t ≡ take (a + b) u → take b (drop a t) ≡ take b (drop a u)
-drop-alike t u a b ht hu e =
-    let side : (l : List ℕ) → a ≤ length l → drop a (take (a + b) l) ≡ take b (drop a l) =
-    λ l h. ap (drop a) (take-add a b l) ∙ drop-at (take a l) (take b (drop a l)) a (length-take-le a l h) in
-    sym (side t ht) ∙ ap (drop a) e ∙ side u hu
+drop-alike : (t u : List ℕ) (a b : ℕ) → take (a + b) t ≡ take (a + b) u → take b (drop a t) ≡ take b (drop a u)
+drop-alike t u a b e = sym (drop-take a b t) ∙ ap (drop a) e ∙ drop-take a b u
 
 take-alike : (t u : List ℕ) (a b : ℕ) → take (a + b) t ≡ take (a + b) u → take a t ≡ take a u
 take-alike t u a b e =
@@ -28,17 +26,15 @@ take-alike t u a b e =
 
 module _ (S : ℕ) (itemBytes : List ℕ) where
   -- the leaders hang on their own rows alone
-  pub leads-kept : (form : Form) (n : ℕ) (rs : List Run) (t u : List ℕ) → takenSize * length rs ≤ length t → takenSize * length rs ≤ length u
-      → take (takenSize * length rs) t ≡ take (takenSize * length rs) u → leadsIn S itemBytes form n t rs ≡ leadsIn S itemBytes form n u rs
+  pub leads-kept : (form : Form) (n : ℕ) (rs : List Run) (t u : List ℕ) → take (takenSize * length rs) t ≡ take (takenSize * length rs) u
+      → leadsIn S itemBytes form n t rs ≡ leadsIn S itemBytes form n u rs
   unfolding leadsIn
-  leads-kept form n [] t u ht hu e = refl
-  leads-kept form n (r ∷ rs) t u ht hu e =
+  leads-kept form n [] t u e = refl
+  leads-kept form n (r ∷ rs) t u e =
       let more : takenSize * length (r ∷ rs) ≡ takenSize + takenSize * length rs = omega arith in
       let e′ : take (takenSize + takenSize * length rs) t ≡ take (takenSize + takenSize * length rs) u = rw more at e in
       let row : take takenSize t ≡ take takenSize u = take-alike t u takenSize (takenSize * length rs) e′ in
-      let later = drop-alike t u takenSize (takenSize * length rs) (omega (arith, ht)) (omega (arith, hu)) e′ in
-      let rest =
-      leads-kept form n rs (drop takenSize t) (drop takenSize u) (rw length-drop (omega (arith, ht))) (rw length-drop (omega (arith, hu))) later in
+      let rest = leads-kept form n rs (drop takenSize t) (drop takenSize u) (drop-alike t u takenSize (takenSize * length rs) e′) in
       λ i. leadIn S itemBytes form n (row i) r ∷ rest i
 
   -- and the commit on its own

@@ -5,7 +5,6 @@ use mathlib.Core.Bool.{Bool, true, false}
 use mathlib.Core.List.{List}
 use mathlib.Core.Option.{some}
 use Prim.Native.Nat.{ℕ, _+_, _*_, _/_, _≤_}
-use native.Mathlib.Omega.{arith}
 use lib.ListN.{length, take, drop}
 use Rattle.roster.specs.Roster.{cluster, replicas, signatureSize}
 use Rattle.log_chain.specs.Log.{withTerms, version1}
@@ -25,7 +24,7 @@ use Rattle.assembly_service.specs.Taken.{Checked, bytesIf, PlannedIf, Ro
 use Rattle.assembly_service.specs.declared.Leaders.the-variants.{All, Missing}
 use Rattle.assembly_service.proofs.Views.{all-taken}
 use Rattle.assembly_service.proofs.Rows.{leads-kept}
-use Rattle.assembly_service.proofs.Plans.{planned, few-terms}
+use Rattle.assembly_service.proofs.Plans.{planned}
 
 module _ (roster log itemBytes : List ℕ) (ok : Checked roster log itemBytes) where
   abbrev S : ℕ
@@ -55,12 +54,9 @@ module _ (roster log itemBytes : List ℕ) (ok : Checked roster log itemBytes) w
           → RowsTaken roster log itemBytes after taken (All count)
       unfolding LeadersChosen CommitFound bytesIf PlannedIf formOf version1 logOf
       taken-all leaders =
-          let few : count ≤ leaderMost = rw terms (few-terms roster log itemBytes ok) in
-          let roomy : takenSize * length rs ≤ length chosen = omega (arith, terms, few, room) in
-          let roomy′ : takenSize * length rs ≤ length taken = rw size roomy in
           let kept′ : take (takenSize * length rs) chosen ≡ take (takenSize * length rs) taken = sym (ap (λ n. take (takenSize * n) taken) (sym terms) ∙ kept ∙ ap (λ n. take (takenSize * n) chosen) terms) in
           let lead = leaders rs (sym terms) voted stamped
-          ∙ ap some (leads-kept S itemBytes (withTerms 4 (cluster roster)) (replicas roster) rs chosen taken roomy roomy′ kept′) in
+          ∙ ap some (leads-kept S itemBytes (withTerms 4 (cluster roster)) (replicas roster) rs chosen taken kept′) in
           let long : length (recordsOf 4 records log) ≡ records = length-records 4 records log in
           let commit′ = ap (λ n. commitTo (withTerms 4 (cluster roster)) roster (itemsOf 4 S itemBytes) n (recordsOf 4 records log)) long ∙ commit in
           record {

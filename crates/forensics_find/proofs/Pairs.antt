@@ -3,11 +3,12 @@
 -- Assumes nothing.
 use mathlib.Core.Path.{_≡_, refl, sym, ap, _∙_}
 use mathlib.Core.Bool.{Bool}
-use mathlib.Core.List.{List, [], _∷_, _++_, map, flatMap, append-assoc, List·Memᴰ, List·Memᴰ·head, List·Memᴰ·tail, List·Memᴰ·not-nil, List·Memᴰ·eq-of-singleton}
+use mathlib.Core.List.{List, [], _∷_, _++_, flatMap, List·Memᴰ, List·Memᴰ·head, List·Memᴰ·tail, List·Memᴰ·not-nil, List·Memᴰ·eq-of-singleton}
 use mathlib.Core.Logic.{⊎-elim}
 use mathlib.Core.Option.{Option, some, none}
 use Prim.Native.Nat.{ℕ}
 use Rattle.words.proofs.Members.{joined-mem, joined-empty, mem-cond}
+use Rattle.words.proofs.FlatMap.{flatMap-append}
 use Rattle.log_chain.specs.Log.{Record, lastTerm}
 use Rattle.log_chain.specs.Claim.{Ballot, Claim, stamped, received, voted}
 use Rattle.replica.specs.Charges.{Charge, clash}
@@ -20,11 +21,6 @@ use Rattle.forensics_find.proofs.Says.{saidIf, voteBy, stampBy, receipt
 -- ---- one list for each element
 
 module _ {A B : Type 0} where
-  pub over-append : (f : A → List B) (xs ys : List A) → flatMap f (xs ++ ys) ≡ flatMap f xs ++ flatMap f ys
-  unfolding flatMap
-  over-append f [] ys = refl
-  over-append f (x ∷ xs) ys = ap (λ z. f x ++ z) (over-append f xs ys) ∙ sym (append-assoc (f x) (flatMap f xs) (flatMap f ys))
-
   pub over-same : (f g : A → List B) (xs : List A) → ((x : A) → List·Memᴰ x xs → f x ≡ g x) → flatMap f xs ≡ flatMap g xs
   unfolding flatMap
   over-same f g [] h = refl
@@ -35,12 +31,7 @@ module _ {A B C : Type 0} where
   pub over-over : (f : B → List C) (g : A → List B) (xs : List A) → flatMap f (flatMap g xs) ≡ flatMap (λ x. flatMap f (g x)) xs
   unfolding flatMap
   over-over f g [] = refl
-  over-over f g (x ∷ xs) = over-append f (g x) (flatMap g xs) ∙ ap (λ z. flatMap f (g x) ++ z) (over-over f g xs)
-
-  pub over-map : (f : B → List C) (g : A → B) (xs : List A) → flatMap f (map g xs) ≡ flatMap (λ x. f (g x)) xs
-  unfolding flatMap
-  over-map f g [] = refl
-  over-map f g (x ∷ xs) = ap (λ z. f (g x) ++ z) (over-map f g xs)
+  over-over f g (x ∷ xs) = flatMap-append f (g x) (flatMap g xs) ∙ ap (λ z. flatMap f (g x) ++ z) (over-over f g xs)
 
 -- ---- all pairs
 

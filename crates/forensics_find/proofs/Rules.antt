@@ -13,6 +13,7 @@ use lib.Dec.{eqb, leb, ltb}
 use lib.ListN.{length, take}
 use lib.Seq.{length-take-le}
 use Rattle.words.proofs.Members.{joined-empty}
+use Rattle.words.proofs.FlatMap.{flatMap-map}
 use Rattle.refusal.specs.Checks.{all}
 use Rattle.refusal.proofs.Laws.{all-cons, every-mem}
 use Rattle.roster.specs.Masks.{signer}
@@ -36,7 +37,7 @@ use Rattle.forensics_find.proofs.Views.{tenure, tenures, ruled}
 use Rattle.forensics_charges.proofs.Lowest.{lowest-append, lowest-split, lowest-both}
 use Rattle.log_difference.proofs.Differ.{agree-take}
 use Rattle.forensics_find.proofs.Says.{saidIf, vote, stamp, receipt, voter, stamper, voteBy, stampBy, receiptBy, says-slots}
-use Rattle.forensics_find.proofs.Pairs.{over-same, over-over, over-map, pairs, by-kind, are-votes, are-stamps, are-given}
+use Rattle.forensics_find.proofs.Pairs.{over-same, over-over, pairs, by-kind, are-votes, are-stamps, are-given}
 
 -- ---- a charge with tests before it
 
@@ -174,7 +175,7 @@ module _ (k : ℕ) where
   given-ruled none log ms e = sym (nobody-gave k 3 (map tenure ms))
   given-ruled (some c) log ms e =
       said-left (voter k) vote ms (signer (c .signers) k) (receipt c log)
-      ∙ over-same _ _ ms (λ y m. stale-pair c log (commit-within c log e) 3 y) ∙ sym (over-map _ tenure ms)
+      ∙ over-same _ _ ms (λ y m. stale-pair c log (commit-within c log e) 3 y) ∙ sym (flatMap-map _ tenure ms)
 
   votes-given : (o : Option Commit) (log : List Record) (ms : List Lead) → within o (length log) ≡ true
       → pairs (flatMap (voteBy k) ms) (receiptBy k o log) ≡ afterReceipts k 4 (receiptsBy o log) (map tenure ms)
@@ -184,7 +185,7 @@ module _ (k : ℕ) where
       said-right (voter k) vote ms (signer (c .signers) k) (receipt c log)
       ∙ over-same _ _ ms (λ y m.
       tests-swap (voter k y) (signer (c .signers) k) (clash (vote y) (receipt c log)) ∙ stale-pair c log (commit-within c log e) 4 y)
-      ∙ sym (over-map _ tenure ms)
+      ∙ sym (flatMap-map _ tenure ms)
 
   -- 1 and 2 together, term by term
   terms-ruled : (d : ℕ) (ls ms : List Lead)
@@ -192,7 +193,7 @@ module _ (k : ℕ) where
       ≡ least (lowest (chargedBy (λ x y. twoCandidates k (tenure x) (tenure y)) 1 ls ms)) (lowest (chargedBy (λ x y. twoLogs k d (tenure x) (tenure y)) 2 ls ms))
   unfolding amongTerms between
   terms-ruled d ls ms =
-      ap lowest (over-map (λ x. flatMap (between k d x) (map tenure ms)) tenure ls ∙ over-same _ _ ls (λ x m. over-map (between k d (tenure x)) tenure ms))
+      ap lowest (flatMap-map (λ x. flatMap (between k d x) (map tenure ms)) tenure ls ∙ over-same _ _ ls (λ x m. flatMap-map (between k d (tenure x)) tenure ms))
       ∙ lowest-split _ (λ x. flatMap (λ y. charge (twoCandidates k (tenure x) (tenure y)) 1 (tenure x .term)) ms)
       (λ x. flatMap (λ y. charge (twoLogs k d (tenure x) (tenure y)) 2 (tenure x .term)) ms) (λ x. lowest-both _ _ ms) ls
 

@@ -2,14 +2,15 @@
 -- Assumes nothing.
 use mathlib.Core.Path.{_≡_, sym, ap, _∙_}
 use mathlib.Core.Bool.{true, false}
-use mathlib.Core.List.{List, [], _++_, append-assoc}
-use mathlib.Core.Logic.{⊎-elim}
+use mathlib.Core.List.{List, []}
+use mathlib.Core.Logic.{inr, ⊎-elim}
 use Prim.Native.Nat.{ℕ, _+_, _*_, _/_, _%_, _≤_}
 use native.Mathlib.Omega.{arith}
 use borrow.Author.Tests.{leb-true, leb-false}
 use lib.Dec.{leb}
-use lib.ListN.{length, take, drop, length-drop, take-append-drop}
-use lib.Seq.{sets, sets-eq, take-at, drop-at, take-append-le, drop-append-le, length-take-le}
+use lib.ListN.{length, take, drop}
+use lib.Seq.{sets}
+use Rattle.words.proofs.Laws.{part-put, part-sets}
 use Rattle.refusal.proofs.Laws.{look}
 use Rattle.log_chain.specs.Log.{withTerms, pointer}
 use Rattle.log_chain.specs.Records.{recordsOf}
@@ -17,26 +18,12 @@ use Rattle.log_checkpoints.specs.Checkpoints.{spacing, Checkpoints, tabl
 
 -- ---- 32 bytes stored
 
--- what stands before a place does not hang on what follows there
-part-before : (t r : List ℕ) (at n : ℕ) → n + 32 ≤ at → at ≤ length t → take 32 (drop n (take at t ++ r)) ≡ take 32 (drop n (take at t))
-part-before t r at n h room =
-    let front = length-take-le at t room in
-    let rest : 32 ≤ length (drop n (take at t)) = rw (length-drop, front) (omega arith) in
-    ap (take 32) (drop-append-le n (take at t) r (omega (arith, front))) ∙ take-append-le 32 (drop n (take at t)) r rest
-
 module _ (t v : List ℕ) (at : ℕ) (long : length v ≡ 32) (room : at + 32 ≤ length t) where
-  stored : sets t at v ≡ take at t ++ (v ++ drop (at + length v) t)
-  stored = sets-eq v t at (omega arith) ∙ append-assoc (take at t) v _
-
   part-here : take 32 (drop at (sets t at v)) ≡ v
-  part-here =
-      ap (λ (l : List ℕ). take 32 (drop at l)) stored ∙ ap (take 32) (drop-at (take at t) _ at (length-take-le at t (omega arith)))
-      ∙ take-at v _ 32 long
+  part-here = ap (λ (n : ℕ). take n (drop at (sets t at v))) (sym long) ∙ part-put t v at (omega arith)
 
   part-kept : (n : ℕ) → n + 32 ≤ at → take 32 (drop n (sets t at v)) ≡ take 32 (drop n t)
-  part-kept n h =
-      ap (λ (l : List ℕ). take 32 (drop n l)) stored ∙ part-before t _ at n h (omega arith) ∙ sym (part-before t (drop at t) at n h (omega arith))
-      ∙ ap (λ (l : List ℕ). take 32 (drop n l)) (take-append-drop at t)
+  part-kept n h = part-sets v t n 32 at (inr h)
 
 -- ---- the table
 

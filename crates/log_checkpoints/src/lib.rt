@@ -2,7 +2,7 @@
 // the term's width: at most 63 hashes each, and a table of 32 bytes for 64 records.
 ghost use mathlib.Core.Path.{_≡_};
 ghost use mathlib.Core.List.{[]};
-ghost use Prim.Native.Nat.{_+_, _*_, _^_, _≤_, _<_};
+ghost use Prim.Native.Nat.{_*_, _^_, _≤_, _<_};
 ghost use lib.ListN.{length};
 ghost use Rattle.words.specs.Widths.{widthMost};
 ghost use Rattle.sha256.specs.Sha256.{bytesOf};

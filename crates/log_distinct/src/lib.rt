@@ -1,6 +1,6 @@
 // The distinct terms of a log, counted as a set (document 02, W3, check 8), over the term's width.
 ghost use mathlib.Core.Path.{_≡_};
-ghost use Prim.Native.Nat.{_+_, _*_, _≤_, _<_};
+ghost use Prim.Native.Nat.{_*_, _≤_};
 ghost use lib.Dec.{leb};
 ghost use lib.ListN.{length};
 ghost use Rattle.words.specs.Widths.{widthMost};

@@ -1,7 +1,7 @@
 -- A row's bytes, and rows written one after the other.
 -- Assumes nothing.
 use mathlib.Core.Path.{_≡_, refl, sym, ap, _∙_}
-use mathlib.Core.List.{List, [], _∷_, _++_, map, flatMap, append-nil, append-assoc, map-append}
+use mathlib.Core.List.{List, [], _∷_, _++_, map, flatMap, map-append}
 use mathlib.Core.Option.{Option, some, none}
 use Prim.Native.Nat.{ℕ, _+_, _*_, _<_}
 use native.Mathlib.Numerals.{add-one}
@@ -10,6 +10,7 @@ use lib.ListN.{length, take, getD, length-append, length-map}
 use lib.Seq.{sets, length-sets, take-suc, length-take-le}
 use Rattle.words.specs.BigEndian.{be}
 use Rattle.words.proofs.Laws.{length-be, sets-append}
+use Rattle.words.proofs.FlatMap.{flatMap-one}
 use Rattle.replica.specs.Charges.{Charge}
 use Rattle.forensics_charges.specs.declared.Row.{Row}
 use Rattle.forensics_charges.specs.Charges.{chargeOf}
@@ -29,11 +30,6 @@ unfolding flatMap
 length-rows [] = refl
 length-rows (x ∷ l) = rw (length-append, length-row, length-rows l) (omega arith)
 
-joined-one : (l : List (Option Charge)) (x : Option Charge) → flatMap rowBytes (l ++ x ∷ []) ≡ flatMap rowBytes l ++ rowBytes x
-unfolding flatMap
-joined-one [] x = append-nil (rowBytes x)
-joined-one (y ∷ l) x = rw (joined-one l x) (sym (append-assoc (rowBytes y) (flatMap rowBytes l) (rowBytes x)))
-
 -- ---- parts written one after the other
 
 put-two : (e xs ys : List ℕ) (at k : ℕ) → length xs ≡ k → sets (sets e at xs) (at + k) ys ≡ sets e at (xs ++ ys)
@@ -52,7 +48,7 @@ rows-none e = refl
 more-rows : (rows : List Row) (i : ℕ) (d : Row) → i < length rows
     → flatMap rowBytes (map chargeOf (take (i + 1) rows)) ≡ flatMap rowBytes (map chargeOf (take i rows)) ++ rowBytes (chargeOf (getD rows i d))
 more-rows rows i d h =
-    rw (add-one, take-suc rows i d h, map-append, joined-one (map chargeOf (take i rows)) (chargeOf (getD rows i d)))
+    rw (add-one, take-suc rows i d h, map-append, flatMap-one rowBytes (map chargeOf (take i rows)) (chargeOf (getD rows i d)))
 
 -- one row more
 pub rows-more : (e e₁ e₂ : List ℕ) (rows : List Row) (i : ℕ) (d : Row) → i < length rows

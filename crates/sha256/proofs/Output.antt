@@ -1,7 +1,7 @@
 -- The bytes of the hash value's words, written one word after the other.
 -- Assumes nothing.
 use mathlib.Core.Path.{_≡_}
-use mathlib.Core.List.{List, [], _∷_, _++_, append-assoc, append-nil, flatMap}
+use mathlib.Core.List.{List, flatMap}
 use Prim.Native.Nat.{ℕ, _+_, _*_, _≤_, _<_}
 use native.Mathlib.Numerals.{add-one}
 use native.Mathlib.Omega.{arith}
@@ -9,11 +9,7 @@ use lib.ListN.{length, getD, take}
 use lib.Seq.{take-suc, sets}
 use Rattle.words.specs.BigEndian.{be}
 use Rattle.words.proofs.Laws.{length-be, take-sets}
-
-flatMap-snoc : (f : ℕ → List ℕ) (xs : List ℕ) (x : ℕ) → flatMap f (xs ++ (x ∷ [])) ≡ flatMap f xs ++ f x
-unfolding flatMap
-flatMap-snoc f [] x = append-nil (f x)
-flatMap-snoc f (y ∷ ys) x = rw (flatMap-snoc f ys x, append-assoc)
+use Rattle.words.proofs.FlatMap.{flatMap-one}
 
 -- one word more
 pub put-step : (out w : List ℕ) (i : ℕ) → i < length w → 4 * i + 4 ≤ length out → take (4 * i) out ≡ flatMap (be 4) (take i w)
@@ -21,4 +17,4 @@ pub put-step : (out w : List ℕ) (i : ℕ) → i < length w → 4 * i + 4 ≤ l
 put-step out w i inside room e =
     let four : length (be 4 (getD w i 0)) ≡ 4 = length-be 4 (getD w i 0) in
     let next : 4 * (i + 1) ≡ 4 * i + length (be 4 (getD w i 0)) = omega arith in
-    rw (next, take-sets out (be 4 (getD w i 0)) (4 * i) (omega arith), e, add-one, take-suc w i 0 inside, flatMap-snoc)
+    rw (next, take-sets out (be 4 (getD w i 0)) (4 * i) (omega arith), e, add-one, take-suc w i 0 inside, flatMap-one)

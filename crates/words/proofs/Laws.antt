@@ -2,6 +2,7 @@
 -- Assumes nothing.
 use mathlib.Core.Path.{_≡_, refl, sym, ap, _∙_}
 use mathlib.Core.List.{List, [], _∷_, _++_}
+use mathlib.Core.Logic.{_⊎_, inl, inr}
 use Prim.Native.Nat.{ℕ, zero, suc, _+_, _-_, _*_, _/_, _%_, _^_, _≤_, _<_}
 use native.Mathlib.Nat.{add-zero, add-suc, add-comm, add-mul-div-right, mul-add-mod-self-right, le-refl, zero-mul, add-mul, mul-assoc, zero-add, suc-add, pow-le-pow-right, div-eq-of-lt, lt-of-lt-of-le, add-assoc, mod-lt, mod-one, mod-eq-of-lt, pow-suc, pow-succ', div-one, mul-comm, div-div-eq-div-mul}
 use native.Mathlib.Numerals.{add-one}
@@ -10,7 +11,7 @@ use lib.Arith.{mod-mul, digits-lt, digits-div}
 use lib.Pow.{pow-add}
 use lib.Dec.{lit<}
 use lib.ListN.{length, take, drop, getD, length-take, length-drop, length-append, replicate, set}
-use lib.Seq.{take-nil, take-suc, drop-cons, drop-drop, take-all, take-at, drop-at, length-take-le, sets, sets-eq, getD-drop, set-comm}
+use lib.Seq.{take-nil, take-suc, drop-cons, drop-drop, drop-set-lt, drop-set-add, take-all, take-at, take-set-le, drop-at, length-take-le, sets, sets-eq, getD-drop, set-comm}
 use Rattle.words.specs.BigEndian.{number, be, numberAt}
 use Rattle.words.proofs.Bytes.{Bytes, none, more}
 
@@ -206,6 +207,24 @@ take-sets l vs k h =
     let long : length (take k l ++ vs) ≡ k + length vs =
     length-append (take k l) vs ∙ ap (λ (n : ℕ). n + length vs) (length-take-le k l (omega arith)) in
     rw (sets-eq vs l k h) (take-at (take k l ++ vs) (drop (k + length vs) l) (k + length vs) long)
+
+-- what a run of stores has put
+pub part-put : (l vs : List ℕ) (at : ℕ) → at + length vs ≤ length l → take (length vs) (drop at (sets l at vs)) ≡ vs
+part-put l vs at h = sym (drop-take at (length vs) (sets l at vs)) ∙ rw (take-sets l vs at h) (drop-at (take at l) vs at (length-take-le at l (omega arith)))
+
+-- and what it leaves
+part-set : (l : List ℕ) (a n i v : ℕ) → (i < a) ⊎ (a + n ≤ i) → take n (drop a (set l i v)) ≡ take n (drop a l)
+part-set l a n i v (inl h) = rw (drop-set-lt a l i v h)
+part-set l a n i v (inr h) =
+    let there : i ≡ a + (i - a) = omega arith in
+    ap (λ (j : ℕ). take n (drop a (set l j v))) there
+    ∙ ap (take n) (drop-set-add a l (i - a) v)
+    ∙ take-set-le n (drop a l) (i - a) v (omega arith)
+
+pub part-sets : (vs l : List ℕ) (a n i : ℕ) → (i + length vs ≤ a) ⊎ (a + n ≤ i) → take n (drop a (sets l i vs)) ≡ take n (drop a l)
+part-sets [] l a n i h = refl
+part-sets (v ∷ vs) l a n i (inl h) = part-sets vs (set l i v) a n (suc i) (inl (omega arith)) ∙ part-set l a n i v (inl (omega arith))
+part-sets (v ∷ vs) l a n i (inr h) = part-sets vs (set l i v) a n (suc i) (inr (omega arith)) ∙ part-set l a n i v (inr h)
 
 -- stores from the place k, where what was written ends, to the place j
 pub sets-next : (w e vs : List ℕ) (k j : ℕ) → length w ≡ k → k + length vs ≡ j → j ≤ length e

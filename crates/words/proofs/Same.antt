@@ -2,7 +2,7 @@
 -- Assumes nothing.
 use mathlib.Core.Path.{_≡_, refl, sym}
 use mathlib.Core.Bool.{Bool, true, false, cond}
-use mathlib.Core.List.{List, [], _∷_}
+use mathlib.Core.List.{List, [], _∷_, _++_}
 use Prim.Native.Nat.{ℕ}
 use native.Mathlib.Omega.{arith}
 use borrow.Author.Tests.{eqb-true, eq-eqb}
@@ -39,7 +39,16 @@ unfolding same
 true-same [] = refl
 true-same (x ∷ xs) = rw (eq-eqb x x refl) (true-same xs)
 
+-- a beginning that both have
+pub same-after : (xs ys zs : List ℕ) → same (xs ++ ys) (xs ++ zs) ≡ same ys zs
+unfolding same
+same-after [] ys zs = refl
+same-after (x ∷ xs) ys zs = rw (eq-eqb x x refl) (same-after xs ys zs)
+
 -- a test that is true of equal lists and of no others
 pub same-test : (r : Bool) (xs ys : List ℕ) → (r ≡ true → xs ≡ ys) × (xs ≡ ys → r ≡ true) → r ≡ same xs ys
 same-test r xs ys p =
     both-ways r (same xs ys) (λ (e : r ≡ true). rw (p .0 e) (true-same ys)) (λ (e : same xs ys ≡ true). p .1 (same-true xs ys e))
+
+pub same-false : (xs ys : List ℕ) → (xs ≡ ys → ⊥) → same xs ys ≡ false
+same-false xs ys h = sym (same-test false xs ys ((λ e. never e), (λ e. absurd (h e))))

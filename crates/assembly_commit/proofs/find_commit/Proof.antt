@@ -84,8 +84,7 @@ same-length c =
     let put = c .before .before in
     let find = put .before .before .before .before .before .before .before in
     let l = find .before .before .before .before .loop in
-    let places = find .find-receipts .last .1 .1 .1 .1 .1 .1 .0 in
-    ap length (put .put-row .ensures) ∙ length-sets (l .row) 0 (l .i ∷ 0 ∷ take replicasMost places) ∙ ap length (l .inv .3)
+    rw (put .put-row .ensures, length-sets) (ap length (l .inv .3))
 
 returns : tie.Need-returns Inv-loop μ-loop
 unfolding CommitFound ReceiptsFound
