@@ -43,21 +43,21 @@ views-agree a b e =
     ∙ differ-own 1 (one .0) (other .0) (b .log)
 
 -- two submissions assembled from one log, from any bags, do not fork
-module _ (roster log : List ℕ) (number₁ length₁ number₂ length₂ : ℕ) (output₁ output₂ : List ℕ) where
-  no-fork : Assembled roster log number₁ length₁ output₁ → Assembled roster log number₂ length₂ output₂ → number₁ ≡ 0 → number₂ ≡ 0
-      → differAt 1 (committed (viewOf roster (take length₁ output₁))) (committed (viewOf roster (take length₂ output₂))) ≡ 0
+module _ (roster log : List ℕ) (number₁ size₁ number₂ size₂ : ℕ) (output₁ output₂ : List ℕ) where
+  no-fork : Assembled roster log number₁ size₁ output₁ → Assembled roster log number₂ size₂ output₂ → number₁ ≡ 0 → number₂ ≡ 0
+      → differAt 1 (committed (viewOf roster (take size₁ output₁))) (committed (viewOf roster (take size₂ output₂))) ≡ 0
   unfolding Assembled
   no-fork claim₁ claim₂ zero₁ zero₂ =
-      views-agree (viewOf roster (take length₁ output₁)) (viewOf roster (take length₂ output₂)) (claim₁ zero₁ .1 ∙ sym (claim₂ zero₂ .1))
+      views-agree (viewOf roster (take size₁ output₁)) (viewOf roster (take size₂ output₂)) (claim₁ zero₁ .1 ∙ sym (claim₂ zero₂ .1))
 
 -- ---- each term led
 
 -- in what is assembled, each term of the log that was given has its leader, with a quorum of votes and a stamp
-terms-led : (roster log : List ℕ) (number length : ℕ) (output : List ℕ) → Assembled roster log number length output → number ≡ 0
-    → (r : Run) → List·Memᴰ r (runs (logOf (formOf roster .termBytes) log)) → Led (replicas roster) (slotsOf roster (take length output)) r
+terms-led : (roster log : List ℕ) (number size : ℕ) (output : List ℕ) → Assembled roster log number size output → number ≡ 0
+    → (r : Run) → List·Memᴰ r (runs (logOf (formOf roster .termBytes) log)) → Led (replicas roster) (slotsOf roster (take size output)) r
 unfolding Assembled slotsOf
-terms-led roster log number length output claim is-zero r m =
+terms-led roster log number size output claim is-zero r m =
     let both = claim is-zero in
-    let s = take length output in
+    let s = take size output in
     led (formOf roster) (replicas roster) (signatureSize roster) (viewOf roster s) (validated roster s (both .0) .sound) r
     (subst (λ l. List·Memᴰ r (runs l)) (sym (both .1)) m)

@@ -51,7 +51,7 @@ module _ (w S : ℕ) where
       ap (λ is. firstItem w S (b ∷ bs) ∷ is)
       (items-skip (itemSize w S (b ∷ bs) - 1) bs ∙ ap (itemsAfter w S 0) (after-item b bs))
 
-  pub whole-next : (itemBytes : List ℕ) → 0 < length itemBytes → 0 < firstSize w S itemBytes → itemSize w S itemBytes ≤ length itemBytes
+  pub whole-next : (itemBytes : List ℕ) → 0 < length itemBytes → 0 < firstSize w itemBytes → itemSize w S itemBytes ≤ length itemBytes
       → whole w S itemBytes ≡ whole w S (drop (itemSize w S itemBytes) itemBytes)
   unfolding whole wholeAfter
   whole-next [] h kind inside = absurd (omega arith)
@@ -74,16 +74,16 @@ module _ (w S : ℕ) where
   items-long (suc k) [] e = no-item
   items-long (suc k) (b ∷ bs) e = items-long k bs e
   items-long zero (b ∷ bs) e =
-      let end = 2 + firstSize w S (b ∷ bs) in
-      let both = cond-true (ltb 0 (firstSize w S (b ∷ bs))) (wholeAfter w S (end + S - 1) bs) e in
+      let end = 2 + firstSize w (b ∷ bs) in
+      let both = cond-true (ltb 0 (firstSize w (b ∷ bs))) (wholeAfter w S (end + S - 1) bs) e in
       let room = whole-room (end + S - 1) bs (both .1) in
       let after : S ≤ length (drop end (b ∷ bs)) = rw length-drop (omega (arith, room)) in
       an-item (length-take-le S (drop end (b ∷ bs)) after) (items-long _ bs (both .1))
 
   -- its first item has a kind, and lies inside
-  pub whole-first : (itemBytes : List ℕ) → 0 < length itemBytes → whole w S itemBytes ≡ true → (0 < firstSize w S itemBytes) × (itemSize w S itemBytes ≤ length itemBytes)
+  pub whole-first : (itemBytes : List ℕ) → 0 < length itemBytes → whole w S itemBytes ≡ true → (0 < firstSize w itemBytes) × (itemSize w S itemBytes ≤ length itemBytes)
   unfolding whole wholeAfter
   whole-first [] h e = absurd (omega arith)
   whole-first (b ∷ bs) h e =
-      let both = cond-true (ltb 0 (firstSize w S (b ∷ bs))) (wholeAfter w S (itemSize w S (b ∷ bs) - 1) bs) e in
+      let both = cond-true (ltb 0 (firstSize w (b ∷ bs))) (wholeAfter w S (itemSize w S (b ∷ bs) - 1) bs) e in
       (ltb-true 0 _ (both .0), omega (arith, whole-room (itemSize w S (b ∷ bs) - 1) bs (both .1), item-some (b ∷ bs)))

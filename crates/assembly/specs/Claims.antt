@@ -8,6 +8,6 @@ use Rattle.assembly.specs.Assembly.{recordsGiven}
 
 -- of the number, the length and the output
 unfoldable pub Assembled : List ℕ → List ℕ → ℕ → ℕ → List ℕ → Type 0
-Assembled roster log number length output =
-    let s = take length output in
+Assembled roster log number size output =
+    let s = take size output in
     number ≡ 0 → (validate roster s ≡ 0) × (viewOf roster s .log ≡ recordsGiven roster log)

@@ -25,20 +25,20 @@ statementSize w kind =
     let place = 1 + nameSize + w + 4 + 32 in
     cond (eqb kind 1) place (cond (eqb kind 2) place (cond (eqb kind 3) (1 + nameSize + ballotSize w) 0))
 
-module _ (w S : ℕ) where
-  -- the bytes of the first item's statement, by its kind byte, the third; 0 where there is no such byte
-  unfoldable pub firstSize : List ℕ → ℕ
-  firstSize itemBytes = statementSize w (getD itemBytes 2 0)
+-- those of the first item's statement, by its kind byte, the third; 0 where there is no such byte
+unfoldable pub firstSize : ℕ → List ℕ → ℕ
+firstSize w itemBytes = statementSize w (getD itemBytes 2 0)
 
+module _ (w S : ℕ) where
   unfoldable pub itemSize : List ℕ → ℕ
-  itemSize itemBytes = 2 + firstSize itemBytes + S
+  itemSize itemBytes = 2 + firstSize w itemBytes + S
 
   unfoldable pub firstItem : List ℕ → Item
   firstItem itemBytes =
-      let end = 2 + firstSize itemBytes in
+      let end = 2 + firstSize w itemBytes in
       record {
         replica = numberAt 2 itemBytes 0;
-        statement = take (firstSize itemBytes) (drop 2 itemBytes);
+        statement = take (firstSize w itemBytes) (drop 2 itemBytes);
         signature = take S (drop end itemBytes);
       }
 
@@ -55,7 +55,7 @@ module _ (w S : ℕ) where
   unfoldable pub wholeAfter : ℕ → List ℕ → Bool
   wholeAfter zero [] = true
   wholeAfter (suc skip) [] = false
-  wholeAfter zero (b ∷ bs) = cond (ltb 0 (firstSize (b ∷ bs))) (wholeAfter (itemSize (b ∷ bs) - 1) bs) false
+  wholeAfter zero (b ∷ bs) = cond (ltb 0 (firstSize w (b ∷ bs))) (wholeAfter (itemSize (b ∷ bs) - 1) bs) false
   wholeAfter (suc skip) (b ∷ bs) = wholeAfter skip bs
 
   unfoldable pub whole : List ℕ → Bool

@@ -91,7 +91,7 @@ module _ (w S : ℕ) (itemBytes : List ℕ) (at : ℕ) where
 
   -- ---- in a bag
 
-  size-here : firstSize w S (drop at itemBytes) ≡ sizeAt
+  size-here : firstSize w (drop at itemBytes) ≡ sizeAt
   unfolding firstSize
   size-here = rw getD-drop
 
@@ -109,7 +109,7 @@ module _ (w S : ℕ) (itemBytes : List ℕ) (at : ℕ) where
       record {
         replica = numberAt 2 itemBytes at;
         statement = part-from itemBytes at 2 (at + 2) (at + 2 + sizeAt) size-here refl refl k;
-        signature = part-from itemBytes at (2 + firstSize w S (drop at itemBytes)) (at + 2 + sizeAt) (at + 2 + sizeAt + S) refl (rw size-here (omega arith)) refl k;
+        signature = part-from itemBytes at (2 + firstSize w (drop at itemBytes)) (at + 2 + sizeAt) (at + 2 + sizeAt + S) refl (rw size-here (omega arith)) refl k;
       }
 
   module _ (more : at < length itemBytes) where

@@ -15,7 +15,7 @@ use lib.Seq.{length-take-le, take-all}
 use Rattle.words.specs.BigEndian.{be}
 use Rattle.words.proofs.Laws.{length-be}
 use Rattle.refusal.proofs.Laws.{look}
-use Rattle.submission_encoding.specs.Encoding.{signed}
+use Rattle.submission_encoding.specs.Encoding.{signedBytes}
 use Rattle.submission_encoding.specs.Copies.{signersOf, signatureOf, signaturesOf}
 use Rattle.submission_encoding.proofs.Copies.{Sized, no-more, skip, one, signers-lt, signatures-length}
 use Rattle.assembly_copies.specs.Rows.{copyAt, copiesAt, Placed}
@@ -74,8 +74,8 @@ module _ (S : ℕ) (itemBytes : List ℕ) where
     pub signatures-long : length (signaturesAt S itemBytes n places) ≡ S * ones signers
     signatures-long = sym (ap length (signatures-joined n places (held .long))) ∙ copies-long
 
-    pub signed-part : signed S signers (signaturesOf (copiesAt S itemBytes n places)) ≡ signedAt S itemBytes n places
-    unfolding signed signedAt
+    pub signed-part : signedBytes S signers (signaturesOf (copiesAt S itemBytes n places)) ≡ signedAt S itemBytes n places
+    unfolding signedBytes signedAt
     signed-part =
         ap (λ z. be 2 signers ++ z)
         (take-all (S * ones signers) (signaturesOf (copiesAt S itemBytes n places)) (omega (arith, copies-long))

@@ -16,7 +16,7 @@ use Rattle.log_chain.specs.Records.{recordSize}
 use Rattle.submission.specs.Trailer.{trailerSize}
 use Rattle.submission.specs.View.{Certificate, Commit, View}
 use Rattle.submission.specs.Reading.{ballotSize}
-use Rattle.submission_encoding.specs.Encoding.{recordBytes, logBytes, signed, certificateBytes, leadersBytes, stampsBytes, commitBytes, trailerBytes, encode}
+use Rattle.submission_encoding.specs.Encoding.{recordBytes, logBytes, signedBytes, certificateBytes, leadersBytes, stampsBytes, commitBytes, trailerBytes, encode}
 use Rattle.submission_encoding.specs.Copies.{bitOf, signersOf, signatureOf, signaturesOf}
 use Rattle.submission_encoding.proofs.Sizes.{certificateMost, commitMost, partsMost}
 
@@ -54,7 +54,7 @@ words ns = replicate 16 7 ++ flatMap (be 4) ns
 bytes : (encode 1 (version1 (replicate 16 7)) 1 (said (some commit))
     ≡ front ++ (0 ∷ 0 ∷ 0 ∷ 1 ∷ 0 ∷ 6 ∷ 32 ∷ 33 ∷ []) ++ words (1 ∷ 1 ∷ 95 ∷ 59 ∷ 9 ∷ 8 ∷ 1 ∷ []))
     × (encode 1 (version1 (replicate 16 7)) 2 (said none) ≡ front ++ words (1 ∷ 1 ∷ 87 ∷ 51 ∷ 1 ∷ 0 ∷ 2 ∷ []))
-unfolding encode recordBytes logBytes signed certificateBytes leadersBytes stampsBytes commitBytes trailerBytes ballotBytes be version1 flatMap logged vote leader commit
+unfolding encode recordBytes logBytes signedBytes certificateBytes leadersBytes stampsBytes commitBytes trailerBytes ballotBytes be version1 flatMap logged vote leader commit
     said front words ones onesIn
 bytes = (refl, refl)
 

@@ -15,7 +15,7 @@ use Rattle.log_chain.specs.Claim.{Ballot, ballotBytes}
 use Rattle.log_chain.proofs.Fits.{RecordFits, LogFits, more, BallotFits}
 use Rattle.submission.specs.View.{Certificate}
 use Rattle.submission.specs.Reading.{ballotSize, ballotAt, signersAt, certificateAt, certificateEnd, certificates, certificatesEnd}
-use Rattle.submission_encoding.specs.Encoding.{recordBytes, logBytes, signed, certificateBytes, leadersBytes}
+use Rattle.submission_encoding.specs.Encoding.{recordBytes, logBytes, signedBytes, certificateBytes, leadersBytes}
 
 -- ---- what stands at a place
 
@@ -98,10 +98,10 @@ module _ (form : Form) where
 
 module _ (S : ℕ) where
   pub signed-read : (signers : ℕ) (signatures : List ℕ) → signers < 256 ^ 2 → S * ones signers ≤ length signatures
-      → (s : List ℕ) (at : ℕ) (rest : List ℕ) → drop at s ≡ signed S signers signatures ++ rest
+      → (s : List ℕ) (at : ℕ) (rest : List ℕ) → drop at s ≡ signedBytes S signers signatures ++ rest
       → (signersAt s at ≡ signers) × (take (S * ones signers) (drop (at + 2) s) ≡ take (S * ones signers) signatures)
       × (drop (at + 2 + S * ones signers) s ≡ rest)
-  unfolding signed signersAt
+  unfolding signedBytes signersAt
   signed-read signers signatures fits long s at rest e =
       let own = take (S * ones signers) signatures in
       let size : length own ≡ S * ones signers = length-take-le (S * ones signers) signatures long in
@@ -113,8 +113,8 @@ module _ (S : ℕ) where
       )
 
   pub signed-length : (signers : ℕ) (signatures : List ℕ) → S * ones signers ≤ length signatures
-      → length (signed S signers signatures) ≡ 2 + S * ones signers
-  unfolding signed
+      → length (signedBytes S signers signatures) ≡ 2 + S * ones signers
+  unfolding signedBytes
   signed-length signers signatures long = rw (length-append, length-be, length-take-le (S * ones signers) signatures long)
 
   -- a certificate with its own signatures alone: one that was read has all bytes from the first signature on
@@ -151,7 +151,7 @@ module _ (form : Form) (S : ℕ) where
   certificate-read c fits s at rest e =
       let w = form .termBytes in
       let fields = ballotBytes form (c .ballot) in
-      let own = signed S (c .signers) (c .signatures) in
+      let own = signedBytes S (c .signers) (c .signatures) in
       let ballot = ballot-read form (c .ballot) (fits .ballot) s at (own ++ rest) (e ∙ append-assoc fields own rest) in
       let signing = signed-read S (c .signers) (c .signatures) (fits .signers) (fits .signatures) s (at + ballotSize w) rest (ballot .1) in
       let end-is : certificateEnd w S s at ≡ at + ballotSize w + 2 + S * ones (c .signers) =

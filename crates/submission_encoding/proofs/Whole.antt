@@ -22,7 +22,7 @@ use Rattle.log_chain.proofs.Fits.{LogFits, empty, more}
 use Rattle.submission.specs.Trailer.{trailerSize, trailerAt, name, recordCount, leaderCount, distance, version}
 use Rattle.submission.specs.View.{Commit, View}
 use Rattle.submission.specs.Reading.{certificates, certificatesEnd, stampsAt, commitAt, commitEnd, signersAt, leadersFrom, stampsFrom, commitFrom, commitOf, view, laidOut}
-use Rattle.submission_encoding.specs.Encoding.{recordBytes, logBytes, signed, commitBytes, leadersBytes, stampsBytes, trailerBytes, encode}
+use Rattle.submission_encoding.specs.Encoding.{recordBytes, logBytes, signedBytes, commitBytes, leadersBytes, stampsBytes, trailerBytes, encode}
 use Rattle.submission_encoding.proofs.Read.{next-field, field-here, number-here, records-read, trimmed, AllFit, BackAll, certificates-read, signed-read, signed-length}
 use Rattle.submission_encoding.proofs.Trailer.{Words, words-read}
 
@@ -198,7 +198,7 @@ module _ (form : Form) (S number : ℕ) (v : View) (ok : Encodable form S number
       let nothing : distance s 4 ≡ 0 = words .fourth ∙ ap (λ o. length (commitBytes S o)) e in
       record { same = rw (eq-eqb _ 0 nothing, e); ends = rw (eq-eqb _ 0 nothing) }
   commit-read (some c) (a-commit index-fits signers-fit long) e =
-      let own = signed S (c .signers) (c .signatures) in
+      let own = signedBytes S (c .signers) (c .signatures) in
       let is : part4 ≡ be 4 (c .index) ++ own = ap (commitBytes S) e in
       let size : length part4 ≡ 6 + S * ones (c .signers) = ap (λ o. length (commitBytes S o)) e ∙ commit-length S c long in
       let something : distance s 4 ≡ 0 → ⊥ = λ z. omega (arith, sym (words .fourth) ∙ z, size) in

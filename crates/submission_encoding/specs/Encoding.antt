@@ -25,20 +25,20 @@ stampsBytes stamps = flatMap (λ g. g) stamps
 
 module _ (S : ℕ) where
   -- the signers, and one signature per signer
-  unfoldable pub signed : ℕ → List ℕ → List ℕ
-  signed signers signatures = be 2 signers ++ take (S * ones signers) signatures
+  unfoldable pub signedBytes : ℕ → List ℕ → List ℕ
+  signedBytes signers signatures = be 2 signers ++ take (S * ones signers) signatures
 
   -- ---- part 4
 
   unfoldable pub commitBytes : Option Commit → List ℕ
   commitBytes none = []
-  commitBytes (some c) = be 4 (c .index) ++ signed (c .signers) (c .signatures)
+  commitBytes (some c) = be 4 (c .index) ++ signedBytes (c .signers) (c .signatures)
 
   module _ (form : Form) where
     -- ---- part 2
 
     unfoldable pub certificateBytes : Certificate → List ℕ
-    certificateBytes c = ballotBytes form (c .ballot) ++ signed (c .signers) (c .signatures)
+    certificateBytes c = ballotBytes form (c .ballot) ++ signedBytes (c .signers) (c .signatures)
 
     unfoldable pub leadersBytes : List Certificate → List ℕ
     leadersBytes cs = flatMap certificateBytes cs
