@@ -1,8 +1,8 @@
 -- The receipts of an index, by their statement; the commit, index by index; and the row that stands for it.
 -- Assumes nothing.
-use mathlib.Core.Path.{_≡_, refl, sym, ap, _∙_}
+use mathlib.Core.Path.{_≡_, refl, ap, _∙_}
 use mathlib.Core.Bool.{false}
-use mathlib.Core.List.{List, [], _∷_, _++_, append-nil, append-assoc}
+use mathlib.Core.List.{List, [], _∷_, _++_, append-nil}
 use mathlib.Core.Option.{Option, some, none}
 use Prim.Native.Nat.{ℕ, zero, suc, _+_, _-_, _≤_, _<_, zero-le}
 use native.Mathlib.Omega.{arith}
@@ -11,14 +11,13 @@ use lib.Count.{ones}
 use lib.Dec.{eqb}
 use lib.ListN.{length, take, getD, drop-of-length-le}
 use lib.Seq.{take-take, length-take-le, getD-take, sets, sets-eq}
-use Rattle.words.specs.BigEndian.{be}
 use Rattle.roster.specs.Roster.{replicas, quorum}
 use Rattle.log_chain.specs.Log.{Form, withTerms, Record, pointer, lastTerm}
-use Rattle.log_chain.specs.Claim.{received, say, place}
+use Rattle.log_chain.specs.Claim.{received, say}
 use Rattle.log_chain.specs.Sizes.{placeStatement}
 use Rattle.log_chain.specs.Records.{recordsOf}
 use Rattle.log_chain.proofs.Records.{length-records}
-use Rattle.log_chain.proofs.Pointers.{pointer-form}
+use Rattle.log_chain.proofs.Said.{receipt-said}
 use Rattle.log_terms.proofs.Records.{take-records}
 use Rattle.submission_encoding.specs.Copies.{signersOf, signaturesOf}
 use Rattle.assembly.specs.Items.{Item}
@@ -34,18 +33,12 @@ unfolding statementAt
 whole-statement q wanted m e = rw e (append-nil (take (q .head) wanted))
 
 -- the statement of the receipts for the first i of some records
-module _ (w count : ℕ) (log name p : List ℕ) (i : ℕ) (inside : i ≤ count) (pointed : p ≡ pointer (withTerms w []) (recordsOf w i log)) where
-  pub receipt-said : placeStatement 2 name w (lastTerm (recordsOf w i log)) i p
-      ≡ (let upto = take i (recordsOf w count log) in say (withTerms w name) (received (lastTerm upto) upto))
-  unfolding say place
-  receipt-said =
-      let size : length (recordsOf w i log) ≡ i = length-records w i log in
-      let hash : p ≡ pointer (withTerms w name) (recordsOf w i log) = pointed ∙ pointer-form (withTerms w []) (withTerms w name) refl (recordsOf w i log) in
-      let t = be w (lastTerm (recordsOf w i log)) in
-      let q = pointer (withTerms w name) (recordsOf w i log) in
-      let parts : name ++ t ++ be 4 i ++ q ≡ name ++ (t ++ be 4 i ++ q) =
-      append-assoc (name ++ t) (be 4 i) q ∙ append-assoc name t (be 4 i ++ q) ∙ ap (λ z. name ++ z) (sym (append-assoc t (be 4 i) q)) in
-      rw (take-records w i count log inside, size, hash) (ap (λ z. 2 ∷ z) parts)
+pub receipt-upto : (w count : ℕ) (log name p : List ℕ) (i : ℕ) → i ≤ count → p ≡ pointer (withTerms w []) (recordsOf w i log)
+    → placeStatement 2 name w (lastTerm (recordsOf w i log)) i p
+    ≡ (let upto = take i (recordsOf w count log) in say (withTerms w name) (received (lastTerm upto) upto))
+receipt-upto w count log name p i inside pointed =
+    rw (take-records w i count log inside)
+    (receipt-said name w (recordsOf w i log) (lastTerm (recordsOf w i log)) i p (length-records w i log) pointed)
 
 -- ---- the commit
 

@@ -1,21 +1,16 @@
 -- The checks of a run in their order, each after those that passed; and what is left of the report.
 -- Assumes nothing.
-use mathlib.Core.Path.{_≡_, refl, sym, _∙_}
+use mathlib.Core.Path.{_≡_, sym, _∙_}
 use mathlib.Core.Bool.{true, false}
-use mathlib.Core.List.{List, []}
+use mathlib.Core.List.{List}
 use Prim.Native.Nat.{ℕ, _+_, _≤_, _<_}
 use borrow.Author.Tests.{eq-eqb, ne-eqb, le-leb, lt-leb}
 use lib.ListN.{length}
 use Rattle.words.specs.Over.{over}
-use Rattle.refusal.specs.Checks.{refusal}
-use Rattle.refusal.proofs.Laws.{passed, refused, first-refused, first-accepted}
+use Rattle.refusal.proofs.Laws.{no-check, passed, refused, first-refused, first-accepted}
 use Rattle.roster.specs.Roster.{rosterNumber}
 use Rattle.district_parts.specs.Parts.{parts, counted, addsUp}
 use Rattle.district.specs.District.{tailSize, districtNumber, districtBytes, districtAfter}
-
-no-check : refusal [] ≡ 0
-unfolding refusal
-no-check = refl
 
 module _ (roster buffer lengths report : List ℕ) where
   -- ---- the report

@@ -2,16 +2,18 @@
 -- value: the kind bytes differ, and every field has its width.
 -- Assumes nothing.
 use mathlib.Core.Path.{_≡_, refl, ap}
-use mathlib.Core.List.{List, [], _∷_, _++_}
+use mathlib.Core.List.{List, [], _∷_, _++_, append-assoc}
 use Prim.Native.Nat.{ℕ, suc, _+_}
 use native.Mathlib.Omega.{arith}
 use lib.ListN.{length, getD, replicate, length-append}
 use Rattle.words.specs.BigEndian.{be}
 use Rattle.words.proofs.Laws.{length-be, be-injective}
 use Rattle.sha256.specs.Sha256.{sha256}
-use Rattle.log_chain.specs.Log.{Form, version1, Record, chainString, chainStrings, pointerFrom, pointer}
+use Rattle.log_chain.specs.Log.{Form, version1, withTerms, Record, chainString, chainStrings, pointerFrom, pointer}
 use Rattle.log_chain.specs.Claim.{Ballot, Claim, stamped, received, voted, place, ballotBytes, say}
+use Rattle.log_chain.specs.Sizes.{placeStatement}
 use Rattle.log_chain.specs.Apart.{Apart}
+use Rattle.log_chain.proofs.Pointers.{pointer-form}
 use Rattle.log_chain.proofs.Fits.{PlaceFits, BallotFits, ClaimFits}
 use Rattle.log_chain.proofs.Injective.{field, length-two, length-digest, pointer-injective}
 
@@ -76,6 +78,22 @@ module _ (form : Form) where
   say-injective (voted b) (received u m) fc fd apart e = absurd (omega (arith, headed _ _ _ _ e .0))
   say-injective (voted b) (voted d) fc fd apart e =
       let p = ballot-injective b d fc fd (headed _ _ _ _ e .1) in λ k. voted (p k)
+
+-- ---- a stamp and a receipt by the fields that the code holds
+
+module _ (name : List ℕ) (w : ℕ) (log : List Record) (term index : ℕ) (p : List ℕ) (long : length log ≡ index)
+    (pointed : p ≡ pointer (withTerms w []) log) where
+  place-said : be w term ++ (be 4 index ++ p) ≡ place (withTerms w name) term log
+  unfolding place
+  place-said = rw (← append-assoc (be w term) (be 4 index) p, long, pointed, pointer-form (withTerms w name) (withTerms w []) refl log)
+
+  pub stamp-said : placeStatement 1 name w term index p ≡ say (withTerms w name) (stamped term log)
+  unfolding say
+  stamp-said = rw (append-assoc, append-assoc) (ap (λ (l : List ℕ). 1 ∷ name ++ l) place-said)
+
+  pub receipt-said : placeStatement 2 name w term index p ≡ say (withTerms w name) (received term log)
+  unfolding say
+  receipt-said = rw (append-assoc, append-assoc) (ap (λ (l : List ℕ). 2 ∷ name ++ l) place-said)
 
 -- ---- the lengths of document 01, for version 1
 

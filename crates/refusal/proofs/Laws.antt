@@ -78,6 +78,10 @@ accepted k false cs h e = absurd (omega (arith, h, e))
 
 -- ---- one check after the other
 
+pub no-check : refusal [] ≡ 0
+unfolding refusal
+no-check = refl
+
 pub passed : (k : ℕ) (met : Bool) (cs : List Check) → met ≡ true → refusal (check k met ∷ cs) ≡ refusal cs
 unfolding refusal check
 passed k met cs e = rw e

@@ -1,21 +1,20 @@
 -- What is written of a sound view with good signatures is accepted, and reads as the same log.
 -- Assumes nothing.
-use mathlib.Core.Path.{_≡_, refl, sym, ap, _∙_}
+use mathlib.Core.Path.{_≡_, sym, ap, _∙_}
 use mathlib.Core.Bool.{true}
-use mathlib.Core.List.{List, []}
+use mathlib.Core.List.{List}
 use Prim.Native.Nat.{ℕ, _*_, _≤_}
 use native.Mathlib.Nat.{mul-le-mul-left}
 use native.Mathlib.Omega.{arith}
 use borrow.Author.Tests.{eq-eqb, le-leb}
 use lib.Dec.{lit<}
 use lib.ListN.{length}
-use lib.Seq.{length-take-le}
 use Rattle.words.specs.BigEndian.{same}
 use Rattle.words.proofs.Same.{true-same}
-use Rattle.refusal.specs.Checks.{all, every, refusal}
-use Rattle.refusal.proofs.Laws.{passed}
-use Rattle.roster.specs.Roster.{nameSize, cluster, replicas, signatureSize, rosterNumber}
-use Rattle.roster.proofs.Accepted.{sizes, signature-bounds}
+use Rattle.refusal.specs.Checks.{all, every}
+use Rattle.refusal.proofs.Laws.{no-check, passed}
+use Rattle.roster.specs.Roster.{cluster, replicas, signatureSize, rosterNumber}
+use Rattle.roster.proofs.Accepted.{sizes, signature-bounds, name-length}
 use Rattle.log_chain.specs.Log.{version1}
 use Rattle.log_chain.specs.Records.{recordSize}
 use Rattle.submission.specs.View.{View, slots}
@@ -52,7 +51,7 @@ writable roster v fine fields sound records terms signatures =
     record {
       fields = fields;
       each = sound .stamped;
-      cluster = length-take-le nameSize roster (omega (arith, those .size));
+      cluster = name-length roster fine;
       fits = lit< tt;
       records = omega (arith, records);
       terms = omega (arith, terms);
@@ -111,15 +110,11 @@ module _ (roster : List ℕ) (v : View) (ok : Writable roster v) where
   genuine-met : every (genuine (formOf roster) roster) (slotsOf roster s) ≡ true
   genuine-met = ap (every (genuine (formOf roster) roster)) same-slots ∙ ok .signatures
 
-  none-refused : refusal [] ≡ 0
-  unfolding refusal
-  none-refused = refl
-
   pub written : (validate roster s ≡ 0) × (viewOf roster s .log ≡ v .log)
   unfolding validate viewOf
   written = (
     passed 5 _ _ sized-met ∙ passed 6 _ _ versioned-met ∙ passed 7 _ _ named-met ∙ passed 8 _ _ counted-met
         ∙ passed 9 _ _ (back .layout) ∙ passed 10 _ _ (sound .quorums) ∙ passed 11 _ _ (sound .order) ∙ passed 12 _ _ (sound .count)
-        ∙ passed 13 _ _ (sound .leaders) ∙ passed 14 _ _ (sound .commit) ∙ passed 15 _ _ genuine-met ∙ none-refused,
+        ∙ passed 13 _ _ (sound .leaders) ∙ passed 14 _ _ (sound .commit) ∙ passed 15 _ _ genuine-met ∙ no-check,
     back .log,
   )

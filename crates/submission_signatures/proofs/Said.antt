@@ -1,8 +1,8 @@
 -- The bytes that the code puts together are those of the claim: a statement is read from its buffer as it was written, a field's bytes are
 -- those of the number read from them, and the parts of a vote stand one after the other.
 -- Assumes nothing.
-use mathlib.Core.Path.{_≡_, refl, sym, ap, _∙_}
-use mathlib.Core.List.{List, [], _∷_, _++_, append-assoc}
+use mathlib.Core.Path.{_≡_, sym, ap, _∙_}
+use mathlib.Core.List.{List, [], _∷_, _++_}
 use mathlib.Core.Option.{some}
 use Prim.Native.Nat.{ℕ, _+_, _≤_}
 use native.Mathlib.Nat.{add-assoc}
@@ -15,10 +15,10 @@ use Rattle.words.proofs.Laws.{bytes-take, bytes-drop, be-number}
 use Rattle.refusal.specs.Checks.{every}
 use Rattle.roster.specs.Roster.{cluster}
 use Rattle.roster.specs.Masks.{replicasOf}
-use Rattle.log_chain.specs.Log.{withTerms, Record, pointer, lastTerm}
-use Rattle.log_chain.specs.Claim.{stamped, received, voted, say, place, ballotBytes}
+use Rattle.log_chain.specs.Log.{withTerms, pointer, lastTerm}
+use Rattle.log_chain.specs.Claim.{voted, say, ballotBytes}
 use Rattle.log_chain.specs.Sizes.{placeStatement}
-use Rattle.log_chain.proofs.Pointers.{pointer-form}
+use Rattle.log_chain.proofs.Said.{receipt-said}
 use Rattle.submission.specs.View.{receiptsOf}
 use Rattle.log_chain.specs.Records.{recordsOf}
 use Rattle.submission.specs.Reading.{ballotSize, ballotAt, signersAt, certificateAt, commitAt}
@@ -70,21 +70,7 @@ pub vote-slots : (roster s : List ℕ) (w S at : ℕ) → Bytes s → at + ballo
 unfolding ballots certificateAt signersAt
 vote-slots roster s w S at b h = rw (vote-said roster s w at b h) (goodAll-certified (withTerms w (cluster roster)) roster S _ _ _)
 
--- ---- a stamp and a receipt
-
-module _ (roster : List ℕ) (w : ℕ) (log : List Record) (term index : ℕ) (p : List ℕ) (long : length log ≡ index)
-    (pointed : p ≡ pointer (withTerms w []) log) where
-  place-said : be w term ++ (be 4 index ++ p) ≡ place (withTerms w (cluster roster)) term log
-  unfolding place
-  place-said = rw (← append-assoc (be w term) (be 4 index) p, long, pointed, pointer-form (withTerms w (cluster roster)) (withTerms w []) refl log)
-
-  pub stamp-said : placeStatement 1 (cluster roster) w term index p ≡ say (withTerms w (cluster roster)) (stamped term log)
-  unfolding say
-  stamp-said = rw (append-assoc, append-assoc) (ap (λ (l : List ℕ). 1 ∷ cluster roster ++ l) place-said)
-
-  receipt-said : placeStatement 2 (cluster roster) w term index p ≡ say (withTerms w (cluster roster)) (received term log)
-  unfolding say
-  receipt-said = rw (append-assoc, append-assoc) (ap (λ (l : List ℕ). 2 ∷ cluster roster ++ l) place-said)
+-- ---- a receipt
 
 -- the signatures on a receipt's statement are the commit certificate's
 pub receipt-slots : (roster s : List ℕ) (w S at records : ℕ) (p : List ℕ) → numberAt 4 s at ≤ records
@@ -95,5 +81,5 @@ pub receipt-slots : (roster s : List ℕ) (w S at records : ℕ) (p : List ℕ) 
 unfolding receiptsOf commitAt signersAt
 receipt-slots roster s w S at records p h pointed =
     let c = numberAt 4 s at in
-    rw (take-records w c records s h, receipt-said roster w (recordsOf w c s) (lastTerm (recordsOf w c s)) c p (length-records w c s) pointed)
+    rw (take-records w c records s h, receipt-said (cluster roster) w (recordsOf w c s) (lastTerm (recordsOf w c s)) c p (length-records w c s) pointed)
     (goodAll-certified (withTerms w (cluster roster)) roster S _ _ _)

@@ -19,8 +19,8 @@ use Rattle.submission.specs.View.{leadsOf, stampOf, slot}
 use Rattle.submission.specs.Reading.{ballotAt, certificateAt, certificateEnd, certificates}
 use Rattle.submission.specs.Validate.{genuine}
 use Rattle.log_chain.proofs.Linked.{Linked}
+use Rattle.log_chain.proofs.Said.{stamp-said}
 use Rattle.submission.proofs.Linked.{leadAt, leadsFrom, leads-first, TermsLeft, Turn, turn}
-use Rattle.submission_signatures.proofs.Said.{stamp-said}
 
 module _ (roster s : List ℕ) (w S : ℕ) (log : List Record) where
   pub record StampsLeft (b : Bool) (left at stamp : ℕ) : Type 0 where
@@ -64,7 +64,7 @@ module _ (roster s : List ℕ) (w S : ℕ) (log : List Record) where
           (map (stampOf S) (leadsFrom roster s w S (left - 1) (certificateEnd w S s at) (stamp + S) (this .later)))) false ≡ b
       unfolding every genuine stampOf slot leadAt certificateAt ballotAt
       stamp-first =
-          rw (asked, this .facts .term, stamp-said roster w (this .of .upto) (lastTerm (this .of .upto)) index p long pointed)
+          rw (asked, this .facts .term, stamp-said (cluster roster) w (this .of .upto) (lastTerm (this .of .upto)) index p long pointed)
           (rw (this .both, leads-first roster s w S left at stamp (this .of) (this .later) more) at (x .answer))
 
       pub stamp-fail : not r ≡ true → false ≡ b

@@ -14,7 +14,7 @@ use Rattle.assembly.specs.Items.{itemsOf, copies}
 use Rattle.assembly.specs.Choice.{receiptsFor}
 use Rattle.assembly_copies.specs.Sought.{CopiesFound}
 use Rattle.assembly_commit.specs.Searched.{ReceiptsFound}
-use Rattle.assembly_commit.proofs.Commits.{whole-statement, receipt-said}
+use Rattle.assembly_commit.proofs.Commits.{whole-statement, receipt-upto}
 use Rattle.assembly_commit.proofs.find_receipts.Statement.{statement}
 use Rattle.assembly_commit.proofs.find_receipts.Tie as tie
 
@@ -65,7 +65,7 @@ returns c =
     let said : take (put .put-place-statement .result) (put .put-place-statement .last .0) ≡ _ =
     written _ _ _ _ (put .put-place-statement .ensures .0) (put .put-place-statement .ensures .1)
     ∙ ap (λ t. placeStatement 2 (cluster (a .roster .now)) w t (a .i) (bytesOf (read .pointer-at .result))) (read .before .last-term .ensures)
-    ∙ receipt-said w (a .widths .records) (a .log .now) (cluster (a .roster .now)) _ (a .i) (p .1) (read .pointer-at .ensures) in
+    ∙ receipt-upto w (a .widths .records) (a .log .now) (cluster (a .roster .now)) _ (a .i) (p .1) (read .pointer-at .ensures) in
     let first = find .find-copies .ensures .0 0 (omega arith) in (
       first ∙ ap (λ m. copies (a .roster .now) m (itemsOf w (a .widths .size) (a .items .now))) (whole-statement _ _ 0 refl ∙ said),
       (find .find-copies .ensures .1 .0, find .find-copies .ensures .1 .1),
