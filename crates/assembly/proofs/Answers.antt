@@ -1,8 +1,9 @@
--- What each answer says: the checks that passed where the number is 0, when it is 20 and 21, and what is written.
+-- What each answer says: the checks that passed where the number is 0, when it is which other, and what is written.
 -- Assumes nothing.
-use mathlib.Core.Path.{_≡_, refl, ap, _∙_}
-use mathlib.Core.Bool.{true}
+use mathlib.Core.Path.{_≡_, refl, sym, ap, _∙_}
+use mathlib.Core.Bool.{true, false}
 use mathlib.Core.List.{List, [], _∷_}
+use mathlib.Core.Logic.{⊎-elim}
 use mathlib.Core.Option.{Option, some, none, Option·elim}
 use Prim.Native.Nat.{ℕ, _≤_, _<_}
 use native.Mathlib.Omega.{arith}
@@ -12,19 +13,79 @@ use lib.ListN.{length}
 use Rattle.words.proofs.Over.{over-nothing}
 use Rattle.words.specs.Over.{over}
 use Rattle.refusal.specs.Checks.{check, refusal}
-use Rattle.refusal.proofs.Laws.{accepted, passed, refused, first-zero}
+use Rattle.refusal.proofs.Laws.{look, accepted, no-check, passed, refused, first-refused, first-accepted, first-zero}
 use Rattle.roster.specs.Roster.{signatureSize, rosterNumber}
 use Rattle.log_chain.specs.Ends.{rising}
 use Rattle.submission.specs.Validate.{formOf}
 use Rattle.assembly.specs.Items.{whole}
-use Rattle.assembly.specs.Assembly.{logCounted, recordsGiven, assembled, outputNumber, assembleNumber, assembledBytes, assembleLength, outputAfter}
+use Rattle.assembly.specs.Assembly.{logOf, logCounted, recordsGiven, assembled, inputNumber, outputNumber, assembleNumber, assembledBytes, assembleLength, outputAfter}
+
+-- ---- 8, 11 and 19
+
+module _ (w S : ℕ) (log itemBytes : List ℕ) where
+  pub number-8 : logCounted w log ≡ false → inputNumber w S log itemBytes ≡ 8
+  unfolding inputNumber
+  number-8 e = refused 8 _ _ e
+
+  module _ (counted : logCounted w log ≡ true) where
+    pub number-11 : rising 1 (logOf w log) ≡ false → inputNumber w S log itemBytes ≡ 11
+    unfolding inputNumber
+    number-11 e = passed 8 _ _ counted ∙ refused 11 _ _ e
+
+    module _ (order : rising 1 (logOf w log) ≡ true) where
+      pub number-19 : whole w S itemBytes ≡ false → inputNumber w S log itemBytes ≡ 19
+      unfolding inputNumber
+      number-19 e = passed 8 _ _ counted ∙ passed 11 _ _ order ∙ refused 19 _ _ e
+
+      pub input-met : whole w S itemBytes ≡ true → inputNumber w S log itemBytes ≡ 0
+      unfolding inputNumber
+      input-met e = passed 8 _ _ counted ∙ passed 11 _ _ order ∙ passed 19 _ _ e ∙ no-check
+
+  -- none of them
+  pub input-passed : inputNumber w S log itemBytes ≡ 0 → (logCounted w log ≡ true) × (rising 1 (logOf w log) ≡ true) × (whole w S itemBytes ≡ true)
+  unfolding inputNumber
+  input-passed e =
+      let c8 = accepted 8 _ _ (lit< tt) e in
+      let c11 = accepted 11 _ _ (lit< tt) (c8 .1) in
+      (c8 .0, c11 .0, accepted 19 _ _ (lit< tt) (c11 .1) .0)
 
 module _ (roster log itemBytes output : List ℕ) where
+  -- ---- one after the other
+
+  pub roster-refuses : {r : ℕ} → r ≡ rosterNumber roster → (r ≡ 0 → ⊥) → r ≡ assembleNumber roster log itemBytes output
+  unfolding assembleNumber
+  roster-refuses e h = first-refused _ e h
+
+  module _ (fine : rosterNumber roster ≡ 0) where
+    pub input-refuses : {r : ℕ} → r ≡ inputNumber (formOf roster .termBytes) (signatureSize roster) log itemBytes → (r ≡ 0 → ⊥)
+        → r ≡ assembleNumber roster log itemBytes output
+    unfolding assembleNumber
+    input-refuses e h = first-accepted fine (first-refused _ e h)
+
+    pub output-decides : inputNumber (formOf roster .termBytes) (signatureSize roster) log itemBytes ≡ 0
+        → outputNumber roster log itemBytes output ≡ assembleNumber roster log itemBytes output
+    unfolding assembleNumber
+    output-decides e = first-accepted fine (first-accepted e refl)
+
   -- ---- 20 and 21
 
   pub none-led : assembled roster log itemBytes ≡ none → outputNumber roster log itemBytes output ≡ 20
   unfolding outputNumber Option·elim
   none-led e = rw e
+
+  -- 20 for nothing else
+  pub only-none-led : outputNumber roster log itemBytes output ≡ 20 → assembled roster log itemBytes ≡ none
+  unfolding outputNumber Option·elim
+  only-none-led e = go (assembled roster log itemBytes) refl e
+    where
+      go : (o : Option (List ℕ)) → assembled roster log itemBytes ≡ o
+          → Option·elim o 20 (λ s. refusal (check 21 (leb (length s) (length output)) ∷ [])) ≡ 20 → assembled roster log itemBytes ≡ none
+      go none is e = is
+      go (some s) is e =
+          absurd (⊎-elim
+          (λ (y : leb (length s) (length output) ≡ true). omega (arith, sym (passed 21 _ _ y ∙ no-check) ∙ e))
+          (λ (n : leb (length s) (length output) ≡ false). omega (arith, sym (refused 21 _ _ n) ∙ e))
+          (look (leb (length s) (length output))))
 
   pub output-short : (s : List ℕ) → assembled roster log itemBytes ≡ some s → length output < length s → outputNumber roster log itemBytes output ≡ 21
   unfolding outputNumber Option·elim
@@ -63,10 +124,8 @@ module _ (roster log itemBytes output : List ℕ) where
   all-passed e =
       let roster-passed = first-zero (rosterNumber roster) _ e in
       let rest = first-zero _ (outputNumber roster log itemBytes output) (roster-passed .1) in
-      let c8 = accepted 8 _ _ (lit< tt) (rest .0) in
-      let c11 = accepted 11 _ _ (lit< tt) (c8 .1) in
-      let c19 = accepted 19 _ _ (lit< tt) (c11 .1) in
-      record { fine = roster-passed .0; counted = c8 .0; order = c11 .0; items = c19 .0; fitted = output-fits (rest .1) }
+      let met = input-passed (formOf roster .termBytes) (signatureSize roster) log itemBytes (rest .0) in
+      record { fine = roster-passed .0; counted = met .0; order = met .1; items = met .2; fitted = output-fits (rest .1) }
 
   -- ---- what is written
 

@@ -8,12 +8,9 @@ use mathlib.Core.Option.{Option, some, none, Option·map, Option·some-injective
 use Prim.Native.Nat.{ℕ, _/_, _≤_}
 use native.Mathlib.Nat.{le-refl, mul-div-le}
 use native.Mathlib.Omega.{arith}
-use borrow.Author.Tests.{leb-true}
 use lib.ListN.{length, take}
 use Rattle.words.proofs.Bytes.{Bytes}
 use Rattle.words.proofs.Over.{over-taken}
-use Rattle.refusal.specs.Checks.{all}
-use Rattle.refusal.proofs.Laws.{all-cons}
 use Rattle.roster.specs.Roster.{replicas, signatureSize, rosterNumber}
 use Rattle.roster.proofs.Accepted.{sizes}
 use Rattle.log_chain.specs.Log.{Form, Record}
@@ -22,8 +19,6 @@ use Rattle.log_chain.specs.Ends.{rising}
 use Rattle.log_chain.specs.Runs.{runs}
 use Rattle.log_chain.proofs.Records.{length-records}
 use Rattle.log_chain.proofs.Fits.{LogFits}
-use Rattle.log_distinct.specs.Distinct.{distinct}
-use Rattle.log_distinct.proofs.Distinct.{distinct-runs}
 use Rattle.submission.specs.View.{Lead}
 use Rattle.submission.specs.Validate.{recordMost, leaderMost, formOf, viewOf, validate}
 use Rattle.submission.proofs.Fits.{records-fit}
@@ -36,9 +31,10 @@ use Rattle.assembly.specs.Claims.{Assembled}
 use Rattle.assembly.proofs.Whole.{Long, items-long}
 use Rattle.assembly.proofs.Assembled.{certificatesOf, AllChosen, AreLeads, some-leads, all-chosen, leads-count, commit-settled, sound, all-genuine}
 use Rattle.assembly.proofs.Fits.{view-fits}
+use Rattle.assembly.proofs.Counted.{log-tests, terms-few}
 use Rattle.assembly.proofs.Answers.{all-passed, bytes-written}
 
--- ---- check 8
+-- ---- the log
 
 module _ (form : Form) (log : List ℕ) where
   -- records of bytes fit
@@ -46,13 +42,9 @@ module _ (form : Form) (log : List ℕ) where
   unfolding logOf
   log-fits bytes = records-fit form (length log / recordSize (form .termBytes)) log bytes (mul-div-le (length log) (recordSize (form .termBytes)))
 
-  pub log-few : logCounted (form .termBytes) log ≡ true
-      → (length (logOf (form .termBytes) log) ≤ recordMost) × (distinct (logOf (form .termBytes) log) ≤ leaderMost)
-  unfolding logCounted logOf
-  log-few e =
-      let records = all-cons _ _ (all-cons _ _ e .1) in
-      let terms = all-cons _ _ (records .1) in
-      (rw length-records (leb-true _ _ (records .0)), leb-true _ _ (terms .0))
+  log-short : logCounted (form .termBytes) log ≡ true → length (logOf (form .termBytes) log) ≤ recordMost
+  unfolding logOf
+  log-short e = rw length-records (log-tests (form .termBytes) log e .1)
 
 -- ---- the view
 
@@ -67,6 +59,14 @@ module _ (roster log itemBytes : List ℕ) where
   pub not-all-led : leadsFor form roster (itemsGiven roster itemBytes) (runs (recordsGiven roster log)) ≡ none → assembled roster log itemBytes ≡ none
   unfolding assembled assembledView
   not-all-led e = rw e
+
+  pub no-bytes : assembled roster log itemBytes ≡ none → leadsFor form roster (itemsGiven roster itemBytes) (runs (recordsGiven roster log)) ≡ none
+  unfolding assembled assembledView
+  no-bytes e = go (leadsFor form roster (itemsGiven roster itemBytes) (runs (recordsGiven roster log))) e
+    where
+      go : (o : Option (List Lead)) → Option·map (encode S form 1) (Option·map (viewWith roster log itemBytes) o) ≡ none → o ≡ none
+      go none e = refl
+      go (some ls) e = absurd (Option·some-ne-none _ e)
 
   pub all-led : (ls : List Lead) → leadsFor form roster (itemsGiven roster itemBytes) (runs (recordsGiven roster log)) ≡ some ls
       → assembled roster log itemBytes ≡ some (encode S form 1 (viewWith roster log itemBytes ls))
@@ -110,15 +110,14 @@ module _ (roster log itemBytes : List ℕ) where
     lead : AllChosen form roster S is long (runs records) ls
     lead = some-chosen (subst (AreLeads form roster S is long (runs records)) found (all-chosen form roster S is long few (runs records)))
 
-    -- at most 64 leads, one for each distinct term
+    -- at most 64 leads, one for each term
     leads-few : length (certificatesOf ls) ≤ leaderMost
-    leads-few =
-        omega (arith, leads-count form roster S is long (runs records) ls lead .0, distinct-runs records order, log-few form log counted .1)
+    leads-few = rw (leads-count form roster S is long (runs records) ls lead .0) (terms-few (form .termBytes) log counted order)
 
     pub view-writable : Writable roster (viewWith roster log itemBytes ls)
     unfolding viewWith
     view-writable =
-        let short = log-few form log counted .0 in
+        let short = log-short form log counted in
         let o = commitTo form roster is (length records) records in
         let commit = commit-settled form roster S is long few records (length records) (le-refl (length records)) in
         writable roster (viewWith roster log itemBytes ls) fine

@@ -1,6 +1,7 @@
--- Worked examples: statements and bags by their bytes, check 8, which copy counts, which candidate and which commit are taken, and the empty log.
+-- Worked examples: statements and bags by their bytes, check 8, which copy counts, which candidate and which
+-- commit are taken, the order of the numbers, and the empty log.
 -- Assumes nothing.
-use mathlib.Core.Path.{_≡_, refl, sym}
+use mathlib.Core.Path.{_≡_, refl, sym, _∙_}
 use mathlib.Core.Bool.{true, false}
 use mathlib.Core.List.{List, [], _∷_, _++_, map, flatMap}
 use mathlib.Core.Option.{Option, some, none, orElse, Option·map}
@@ -9,17 +10,15 @@ use native.Mathlib.Omega.{arith}
 use borrow.Author.Tests.{eq-eqb, ne-eqb}
 use lib.Count.{ones}
 use lib.Dec.{leb}
-use lib.ListN.{length, take, replicate, length-append}
-use lib.Seq.{length-take-le}
+use lib.ListN.{length, replicate, length-append}
 use Rattle.words.specs.BigEndian.{number, numberAt, same}
 use Rattle.words.proofs.Laws.{length-be}
 use Rattle.words.proofs.Same.{true-same}
-use Rattle.refusal.specs.Checks.{all, check, refusal}
-use Rattle.refusal.proofs.Laws.{first-accepted}
+use Rattle.refusal.specs.Checks.{all}
 use Rattle.lms.specs.Check.{good}
-use Rattle.roster.specs.Roster.{nameSize, cluster, replicas, quorum, keyOf, signatureSize, rosterNumber}
+use Rattle.roster.specs.Roster.{replicas, quorum, keyOf, signatureSize, rosterNumber}
 use Rattle.roster.specs.Masks.{signer}
-use Rattle.roster.proofs.Accepted.{sizes}
+use Rattle.roster.proofs.Accepted.{name-length}
 use Rattle.log_chain.specs.Log.{Form, version1, Record}
 use Rattle.log_chain.specs.Records.{recordSize, recordsOf}
 use Rattle.log_chain.specs.Ends.{rising}
@@ -31,9 +30,10 @@ use Rattle.submission.specs.Validate.{formOf}
 use Rattle.submission_encoding.specs.Encoding.{logBytes, leadersBytes, stampsBytes, commitBytes, trailerBytes, encode}
 use Rattle.submission_encoding.specs.Copies.{bitOf, signersOf}
 use Rattle.assembly.specs.Items.{Item, statementSize, firstSize, itemSize, firstItem, itemsAfter, itemsOf, wholeAfter, whole, fits, copyOf, copiesFrom, copies}
-use Rattle.assembly.specs.Choice.{votesFor, leadOf, leadBy, leadFrom, leadsFor, receiptsFor, commitTo}
-use Rattle.assembly.specs.Assembly.{logOf, logCounted, viewWith, assembledView, assembled, outputNumber, assembleNumber}
-use Rattle.assembly.proofs.Answers.{output-enough, output-short}
+use Rattle.assembly.specs.Choice.{votesFor, leadOf, stampBy, leadBy, leadFrom, leadsFor, receiptsFor, commitTo}
+use Rattle.assembly.specs.Assembly.{logOf, logCounted, recordsGiven, itemsGiven, viewWith, assembledView, assembled, inputNumber, outputNumber, assembleNumber}
+use Rattle.assembly.proofs.Answers.{number-8, number-11, number-19, input-met, roster-refuses, input-refuses, output-decides, none-led, output-enough, output-short}
+use Rattle.assembly.proofs.Claim.{not-all-led}
 
 -- ---- the bag
 
@@ -77,10 +77,10 @@ limits log = ((λ e d. rw (e, d)), (λ e. rw e), (λ e d. rw (e, d)))
 
 -- ---- the copy that counts
 
-module _ (roster : List ℕ) (k : ℕ) (statement : List ℕ) (g h : List ℕ) where
-  by : ℕ → List ℕ → List ℕ → Item
-  by replica said signature = record { replica = replica; statement = said; signature = signature }
+by : ℕ → List ℕ → List ℕ → Item
+by replica said signature = record { replica = replica; statement = said; signature = signature }
 
+module _ (roster : List ℕ) (k : ℕ) (statement : List ℕ) (g h : List ℕ) where
   -- the first of two good ones
   first-copy : good (keyOf roster k) statement g ≡ true → copyOf roster k statement (by k statement g ∷ by k statement h ∷ []) ≡ some g
   unfolding copyOf fits all by
@@ -100,28 +100,35 @@ module _ (roster : List ℕ) (k : ℕ) (statement : List ℕ) (g h : List ℕ) w
 -- all good signers, and not a quorum of them alone
 all-signers : (roster statement : List ℕ) (g : List ℕ) → replicas roster ≡ 3
     → ((k : ℕ) → good (keyOf roster k) statement g ≡ true)
-    → signersOf (copies roster statement (by roster 0 statement g g 1 statement g ∷ by roster 0 statement g g 2 statement g ∷ by roster 0 statement g g 3 statement g ∷ [])) ≡ 7
+    → signersOf (copies roster statement (by 1 statement g ∷ by 2 statement g ∷ by 3 statement g ∷ [])) ≡ 7
 unfolding copies copiesFrom copyOf fits all by signersOf bitOf
-all-signers roster statement g n y =
-    rw (n, true-same statement, y 1, y 2, y 3)
+all-signers roster statement g n y = rw (n, true-same statement, y 1, y 2, y 3)
 
 -- ---- the candidate and the commit that are taken
 
 module _ (form : Form) (roster : List ℕ) (is : List Item) where
-  -- no lead of a candidate without a quorum, without the own vote, or without a stamp
-  few-votes : (c : ℕ) (r : Run) → leb (quorum (replicas roster)) (ones (signersOf (votesFor form roster is c r))) ≡ false
-      → leadBy form roster is c r ≡ none
-  unfolding leadBy all
-  few-votes c r n = rw n
+  -- a candidate with a quorum of votes, his own among them, and a stamp leads; none leads who lacks one of the three
+  module _ (c : ℕ) (r : Run) where
+    abbrev mask : ℕ
+    mask = signersOf (votesFor form roster is c r)
 
-  no-own-vote : (c : ℕ) (r : Run) → leb (quorum (replicas roster)) (ones (signersOf (votesFor form roster is c r))) ≡ true
-      → signer (signersOf (votesFor form roster is c r)) c ≡ false → leadBy form roster is c r ≡ none
-  unfolding leadBy all
-  no-own-vote c r y n = rw (y, n)
+    leads : (g : List ℕ) → leb (quorum (replicas roster)) (ones mask) ≡ true → signer mask c ≡ true → stampBy form roster is c r ≡ some g
+        → Option·map (λ l. l .stamp) (leadBy form roster is c r) ≡ some g
+    unfolding leadBy leadOf all
+    leads g y z e = rw (y, z, e)
 
-  no-stamp : (c : ℕ) (r : Run) (votes : List (Option (List ℕ))) → leadOf form c r votes none ≡ none
-  unfolding leadOf
-  no-stamp c r votes = refl
+    few-votes : leb (quorum (replicas roster)) (ones mask) ≡ false → leadBy form roster is c r ≡ none
+    unfolding leadBy all
+    few-votes n = rw n
+
+    no-own-vote : leb (quorum (replicas roster)) (ones mask) ≡ true → signer mask c ≡ false → leadBy form roster is c r ≡ none
+    unfolding leadBy all
+    no-own-vote y n = rw (y, n)
+
+    no-stamp : leb (quorum (replicas roster)) (ones mask) ≡ true → signer mask c ≡ true → stampBy form roster is c r ≡ none
+        → leadBy form roster is c r ≡ none
+    unfolding leadBy leadOf all
+    no-stamp y z e = rw (y, z, e)
 
   -- the lower of two candidates, and the higher where the lower lacks something
   lower : (r : Run) (l m : Lead) → leadBy form roster is 1 r ≡ some l → leadBy form roster is 2 r ≡ some m → leadFrom form roster is 2 1 r ≡ some l
@@ -155,6 +162,43 @@ module _ (form : Form) (roster : List ℕ) (is : List Item) where
     unfolding short taken commitTo
     neither n m = rw (n, m)
 
+-- ---- the order of the numbers
+
+module _ (roster log itemBytes : List ℕ) where
+  abbrev w : ℕ
+  w = formOf roster .termBytes
+
+  abbrev S : ℕ
+  S = signatureSize roster
+
+  -- the roster's number before all others
+  roster-first : (output : List ℕ) → rosterNumber roster ≡ 4 → assembleNumber roster log itemBytes output ≡ 4
+  roster-first output e = sym (roster-refuses roster log itemBytes output (sym e) (λ z. omega (arith, z)))
+
+  module _ (fine : rosterNumber roster ≡ 0) where
+    -- 8, whatever 11, 19, 20 and 21 say
+    eight : (output : List ℕ) → logCounted w log ≡ false → assembleNumber roster log itemBytes output ≡ 8
+    eight output e = sym (input-refuses roster log itemBytes output fine (sym (number-8 w S log itemBytes e)) (λ z. omega (arith, z)))
+
+    module _ (counted : logCounted w log ≡ true) where
+      -- 11, whatever 19, 20 and 21 say
+      eleven : (output : List ℕ) → rising 1 (recordsGiven roster log) ≡ false → assembleNumber roster log itemBytes output ≡ 11
+      eleven output e =
+          sym (input-refuses roster log itemBytes output fine (sym (number-11 w S log itemBytes counted e)) (λ z. omega (arith, z)))
+
+      module _ (order : rising 1 (recordsGiven roster log) ≡ true) where
+        -- 19, whatever 20 and 21 say
+        nineteen : (output : List ℕ) → whole w S itemBytes ≡ false → assembleNumber roster log itemBytes output ≡ 19
+        nineteen output e =
+            sym (input-refuses roster log itemBytes output fine (sym (number-19 w S log itemBytes counted order e)) (λ z. omega (arith, z)))
+
+        -- 20, into an empty output too
+        twenty : whole w S itemBytes ≡ true → leadsFor (formOf roster) roster (itemsGiven roster itemBytes) (runs (recordsGiven roster log)) ≡ none
+            → assembleNumber roster log itemBytes [] ≡ 20
+        twenty items e =
+            sym (output-decides roster log itemBytes [] fine (input-met w S log itemBytes counted order items))
+            ∙ none-led roster log itemBytes [] (not-all-led roster log itemBytes e)
+
 -- ---- the empty log
 
 module _ (roster itemBytes : List ℕ) (fine : rosterNumber roster ≡ 0) (items-whole : whole 4 (signatureSize roster) itemBytes ≡ true) where
@@ -169,21 +213,16 @@ module _ (roster itemBytes : List ℕ) (fine : rosterNumber roster ≡ 0) (items
   made = refl
 
   empty-length : length empty-bytes ≡ 44
-  unfolding empty-bytes nothing encode logBytes leadersBytes stampsBytes commitBytes trailerBytes flatMap formOf version1 cluster
-  empty-length =
-      let name : length (take nameSize roster) ≡ nameSize = length-take-le nameSize roster (omega (arith, sizes roster fine .size)) in
-      simp (length-append, length-be, name)
+  unfolding empty-bytes nothing encode logBytes leadersBytes stampsBytes commitBytes trailerBytes flatMap formOf version1
+  empty-length = simp (length-append, length-be, name-length roster fine)
 
-  early : refusal (
-      check 8 (logCounted 4 []) ∷ check 11 (rising 1 (logOf 4 [])) ∷ check 19 (whole 4 (signatureSize roster) itemBytes) ∷ []
-      )
-      ≡ 0
-  unfolding logCounted logOf recordSize recordsOf distinct rising all check refusal
-  early = rw items-whole
+  early : inputNumber 4 (signatureSize roster) [] itemBytes ≡ 0
+  unfolding logCounted logOf recordSize recordsOf distinct rising all
+  early = input-met 4 (signatureSize roster) [] itemBytes refl refl items-whole
 
   number-is : (output : List ℕ) (r : ℕ) → outputNumber roster [] itemBytes output ≡ r → assembleNumber roster [] itemBytes output ≡ r
-  unfolding assembleNumber formOf version1
-  number-is output r e = sym (first-accepted fine (first-accepted early (sym e)))
+  unfolding formOf version1
+  number-is output r e = sym (output-decides roster [] itemBytes output fine early) ∙ e
 
   -- accepted into 44 bytes, with any bag that is whole; one byte fewer is too small
   empty-fits : (output : List ℕ) → length output ≡ 44 → assembleNumber roster [] itemBytes output ≡ 0

@@ -2,6 +2,7 @@ pub mod Whole
 pub mod Chosen
 pub mod Assembled
 pub mod Fits
+pub mod Counted
 pub mod Answers
 pub mod Claim
 mod Examples

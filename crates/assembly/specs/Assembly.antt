@@ -66,6 +66,13 @@ module _ (roster log itemBytes : List ℕ) where
 
 -- ---- the answer
 
+-- 8, 11 and 19, over the term's width w and the signature's length S: the log and the bag
+unfoldable pub inputNumber : ℕ → ℕ → List ℕ → List ℕ → ℕ
+inputNumber w S log itemBytes =
+    refusal (
+    check 8 (logCounted w log) ∷ check 11 (rising 1 (logOf w log)) ∷ check 19 (whole w S itemBytes) ∷ []
+    )
+
 module _ (roster log itemBytes output : List ℕ) where
   -- 20: some term has no candidate; 21: the output is too small
   unfoldable pub outputNumber : ℕ
@@ -77,13 +84,7 @@ module _ (roster log itemBytes output : List ℕ) where
   unfoldable pub assembleNumber : ℕ
   assembleNumber =
       first (rosterNumber roster)
-      (first
-      (refusal (
-      check 8 (logCounted (formOf roster .termBytes) log) ∷
-      check 11 (rising 1 (recordsGiven roster log)) ∷
-      check 19 (whole (formOf roster .termBytes) (signatureSize roster) itemBytes) ∷ []
-      ))
-      outputNumber)
+      (first (inputNumber (formOf roster .termBytes) (signatureSize roster) log itemBytes) outputNumber)
 
   -- what is written: nothing where it is refused
   unfoldable pub assembledBytes : List ℕ

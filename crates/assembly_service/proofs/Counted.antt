@@ -1,15 +1,13 @@
 -- Check 8 by its tests, for a record's size as the code has it.
 -- Assumes nothing.
 use mathlib.Core.Path.{_≡_, _∙_}
-use mathlib.Core.Bool.{Bool, true, false}
-use Prim.Native.Nat.{ℕ, _*_, _/_, _%_, _≤_, _<_}
-use mathlib.Core.List.{List, [], _∷_}
-use native.Mathlib.Nat.{mul-comm, div-mul-le-self}
+use mathlib.Core.Bool.{Bool, false}
+use mathlib.Core.List.{List}
+use Prim.Native.Nat.{ℕ, _/_, _%_, _≤_, _<_}
 use native.Mathlib.Omega.{arith}
 use borrow.Author.Tests.{eq-eqb, ne-eqb, le-leb, lt-leb}
 use lib.Dec.{leb}
 use lib.ListN.{length}
-use Rattle.refusal.specs.Checks.{check, refusal}
 use Rattle.refusal.proofs.Laws.{first-fails, first-holds, all-one}
 use Rattle.log_chain.specs.Records.{recordSize, recordsOf}
 use Rattle.log_distinct.specs.Distinct.{distinct}
@@ -19,9 +17,6 @@ use Rattle.assembly.specs.Assembly.{logOf, logCounted}
 pub some-bytes : (w : ℕ) → 0 < recordSize w
 unfolding recordSize
 some-bytes w = omega arith
-
-pub log-room : (w : ℕ) (log : List ℕ) → recordSize w * (length log / recordSize w) ≤ length log
-log-room w log = rw (mul-comm (recordSize w) (length log / recordSize w)) (div-mul-le-self (length log) (recordSize w))
 
 module _ (w : ℕ) (log : List ℕ) where
   pub log-cut : (length log % recordSize w ≡ 0 → ⊥) → false ≡ logCounted w log
@@ -36,8 +31,3 @@ module _ (w : ℕ) (log : List ℕ) where
       → r ≡ leb (distinct (recordsOf w (length log / recordSize w) log)) leaderMost → r ≡ logCounted w log
   unfolding logCounted logOf
   log-terms e h d = first-holds _ _ (eq-eqb _ _ e) (first-holds _ _ (le-leb _ _ h) (d ∙ all-one _))
-
--- 8, 11 and 19 met
-pub all-met : (a b c : Bool) → a ≡ true → b ≡ true → c ≡ true → 0 ≡ refusal (check 8 a ∷ check 11 b ∷ check 19 c ∷ [])
-unfolding refusal check
-all-met a b c x y z = rw (x, y, z)

@@ -18,7 +18,7 @@ use Rattle.assembly_writer.specs.Written.{bytesTaken, Planned}
 use Rattle.assembly_service.specs.Taken.{Checked, planOf, bytesIf, PlannedIf, RowsTaken}
 use Rattle.assembly_service.specs.declared.Leaders.{Leaders}
 use Rattle.assembly_service.specs.declared.Leaders.the-variants.{All, Missing}
-use Rattle.assembly_service.proofs.Answers.{output-decides, refusal-answers}
+use Rattle.assembly_service.proofs.Answers.{checked-decides, refusal-answers}
 
 -- the plan as the code has it
 pub plan-given : (roster log : List ℕ) (size n each leaders : ℕ) → size ≡ signatureSize roster → n ≡ replicas roster → each ≡ recordSize 4
@@ -35,7 +35,7 @@ module _ (roster log itemBytes output : List ℕ) (ok : Checked roster log itemB
   unfolding bytesIf
   missing-answers e given =
       let made : assembled roster log itemBytes ≡ none = rows .same ∙ ap (bytesIf roster log itemBytes taken) e in
-      refusal-answers roster log itemBytes output given (output-decides roster log itemBytes output ok (sym (none-led roster log itemBytes output made))) (λ z. omega (arith, z))
+      refusal-answers roster log itemBytes output given (checked-decides roster log itemBytes output ok (sym (none-led roster log itemBytes output made))) (λ z. omega (arith, z))
 
   module _ (leaders : ℕ) (plan : Plan) (e : r ≡ All leaders) (p : plan ≡ planOf roster log leaders) where
     pub plan-held : Planned roster log itemBytes votes plan taken
@@ -52,14 +52,14 @@ module _ (roster log itemBytes output : List ℕ) (ok : Checked roster log itemB
         × ((size ≡ assembleLength roster log itemBytes output) × (output ≡ outputAfter roster log itemBytes output))
     short-answers t h given =
         refusal-answers roster log itemBytes output given
-        (output-decides roster log itemBytes output ok (sym (output-short roster log itemBytes output _ made (omega (arith, t, h))))) (λ z. omega (arith, z))
+        (checked-decides roster log itemBytes output ok (sym (output-short roster log itemBytes output _ made (omega (arith, t, h))))) (λ z. omega (arith, z))
 
     pub written-answers : {size total : ℕ} {after : List ℕ} → total ≡ length (bytesTaken roster log itemBytes plan taken) → total ≤ length output
         → size ≡ length (bytesTaken roster log itemBytes plan taken) → after ≡ over (bytesTaken roster log itemBytes plan taken) output
         → (0 ≡ assembleNumber roster log itemBytes output)
         × ((size ≡ assembleLength roster log itemBytes output) × (after ≡ outputAfter roster log itemBytes output))
     written-answers t h size after =
-        let zero = output-decides roster log itemBytes output ok (sym (output-enough roster log itemBytes output _ made (omega (arith, t, h)))) in (
+        let zero = checked-decides roster log itemBytes output ok (sym (output-enough roster log itemBytes output _ made (omega (arith, t, h)))) in (
           zero,
           (
             size ∙ sym (accepted-length roster log itemBytes output _ (sym zero) made),

@@ -4,23 +4,22 @@ use mathlib.Core.Path.{_≡_, sym, ap, _∙_}
 use mathlib.Core.Bool.{true}
 use mathlib.Core.List.{List}
 use mathlib.Core.Logic.{⊎-elim}
-use Prim.Native.Nat.{ℕ, _+_, _-_, _*_, _/_, _%_, _≤_, _<_}
+use Prim.Native.Nat.{ℕ, _+_, _-_, _*_, _/_, _≤_, _<_}
 use native.Mathlib.Nat.{div-add-mod}
 use native.Mathlib.Omega.{arith}
-use borrow.Author.Tests.{eqb-true, leb-true, ltb-true, ltb-false}
-use lib.Dec.{eqb, leb, ltb}
+use borrow.Author.Tests.{ltb-true, ltb-false}
+use lib.Dec.{ltb}
 use lib.ListN.{length, take, drop, getD}
 use lib.Seq.{getD-take, getD-drop}
-use Rattle.refusal.proofs.Laws.{look, all-cons}
+use Rattle.refusal.proofs.Laws.{look}
 use Rattle.roster.specs.Roster.{replicas, signatureSize}
 use Rattle.roster.proofs.Accepted.{sizes, signature-bounds}
 use Rattle.log_chain.specs.Log.{version1}
 use Rattle.log_chain.specs.Records.{recordSize}
 use Rattle.log_chain.specs.Runs.{runs}
-use Rattle.log_distinct.specs.Distinct.{distinct}
-use Rattle.log_distinct.proofs.Distinct.{distinct-runs}
 use Rattle.submission.specs.Validate.{formOf, recordMost, leaderMost}
-use Rattle.assembly.specs.Assembly.{logOf, logCounted, recordsGiven}
+use Rattle.assembly.specs.Assembly.{logOf, recordsGiven}
+use Rattle.assembly.proofs.Counted.{log-tests, terms-few}
 use Rattle.assembly_copies.specs.Rows.{takenSize}
 use Rattle.assembly_terms.specs.Wanted.{VotesIn}
 use Rattle.assembly_choice.specs.Chosen.{RowsHeld}
@@ -42,22 +41,14 @@ module _ (roster log itemBytes : List ℕ) (ok : Checked roster log itemBytes) w
   abbrev records : ℕ
   records = length log / recordSize w
 
-  tests : (length log % recordSize w ≡ 0) × (records ≤ recordMost) × (distinct (logOf w log) ≤ leaderMost)
-  unfolding logCounted
-  tests =
-      let a = all-cons (eqb (length log % recordSize w) 0) _ (ok .counts) in
-      let b = all-cons (leb records recordMost) _ (a .1) in
-      let d = all-cons (leb (distinct (logOf w log)) leaderMost) _ (b .1) in
-      (eqb-true _ _ (a .0), leb-true _ _ (b .0), leb-true _ _ (d .0))
-
   pub whole-log : recordSize w * records ≡ length log
-  whole-log = omega (arith, div-add-mod (length log) (recordSize w), tests .0)
+  whole-log = omega (arith, div-add-mod (length log) (recordSize w), log-tests w log (ok .counts) .0)
 
   pub few-records : records ≤ recordMost
-  few-records = tests .1
+  few-records = log-tests w log (ok .counts) .1
 
   pub few-terms : length (runs (recordsGiven roster log)) ≤ leaderMost
-  few-terms = rw (← distinct-runs (recordsGiven roster log) (ok .order)) (tests .2)
+  few-terms = terms-few w log (ok .counts) (ok .order)
 
   -- ---- the rows
 

@@ -1,15 +1,11 @@
 // Assembling a submission (document 02, W3): the checks in order, then what is taken from the bag, and only
 // when 20 and 21 are known a byte of the output is written.
 ghost use mathlib.Core.Path.{_≡_};
-ghost use mathlib.Core.List.{[], _∷_};
 ghost use Prim.Native.Nat.{_+_, _*_, _≤_};
 ghost use lib.ListN.{length, take, drop};
 ghost use Rattle.words.specs.Widths.{widthMost};
-ghost use Rattle.refusal.specs.Checks.{check, refusal};
 ghost use Rattle.roster.specs.Sizes.{signatureMost};
-ghost use Rattle.log_chain.specs.Ends.{rising};
 ghost use Rattle.submission.specs.Validate.{formOf, leaderMost};
-ghost use Rattle.assembly.specs.Items.{whole};
 ghost use Rattle.assembly.specs.Assembly as paper;
 ghost use Rattle.assembly_copies.specs.Rows.{takenSize};
 ghost use Rattle.assembly_commit.specs.Searched.{Receivable, CommitFound, CommitRowHeld};
@@ -60,10 +56,7 @@ fn log_counted(log: &[u8], width: usize) -> bool
 // 8, 11 and 19.
 fn input_number(log: &[u8], items: &[u8], width: usize, size: usize) -> u32
     requires { ⌜ (width ≤ widthMost) × (size ≤ signatureMost) ⌝ }
-    ensures { λ r. ⌜ r
-        ≡ refusal (check 8 (paper.logCounted width (now (log .entry)))
-        ∷ check 11 (rising 1 (paper.logOf width (now (log .entry))))
-        ∷ check 19 (whole width size (now (items .entry))) ∷ []) ⌝ }
+    ensures { λ r. ⌜ r ≡ paper.inputNumber width size (now (log .entry)) (now (items .entry)) ⌝ }
 {
     if !log_counted(log, width) {
         return 8;

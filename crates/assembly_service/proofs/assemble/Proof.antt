@@ -6,7 +6,8 @@ use borrow.Author.Needs.{needs}
 use Rattle.roster.proofs.Accepted.{sizes}
 use Rattle.log_chain.specs.Log.{version1}
 use Rattle.submission.specs.Validate.{formOf}
-use Rattle.assembly_service.proofs.Answers.{checked, roster-refuses, input-refuses, refusal-answers}
+use Rattle.assembly.proofs.Answers.{roster-refuses, input-refuses}
+use Rattle.assembly_service.proofs.Answers.{checked, refusal-answers}
 use Rattle.assembly_service.proofs.assemble.Statement.{statement}
 use Rattle.assembly_service.proofs.assemble.Tie as tie
 

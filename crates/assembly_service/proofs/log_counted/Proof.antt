@@ -1,8 +1,11 @@
 -- A test that fails ends the check, and the last decides.
 -- Assumes nothing.
+use native.Mathlib.Nat.{mul-div-le}
 use native.Mathlib.Omega.{arith}
 use borrow.Author.Needs.{needs}
-use Rattle.assembly_service.proofs.Counted.{some-bytes, log-room, log-cut, log-long, log-terms}
+use lib.ListN.{length}
+use Rattle.log_chain.specs.Records.{recordSize}
+use Rattle.assembly_service.proofs.Counted.{some-bytes, log-cut, log-long, log-terms}
 use Rattle.assembly_service.proofs.log_counted.Statement.{statement}
 use Rattle.assembly_service.proofs.log_counted.Tie as tie
 
@@ -26,7 +29,7 @@ terms-at-most-requires : tie.Need-terms-at-most-requires
 terms-at-most-requires c κs =
     let start = c .before .before .before .before in
     let size = c .before .before .record-size .ensures .0 in
-    (start .pre, rw size (log-room (start .args .width) (start .args .log .now)))
+    (start .pre, rw size (mul-div-le (length (start .args .log .now)) (recordSize (start .args .width))))
 
 returns-3 : tie.Need-returns-3
 returns-3 c =
