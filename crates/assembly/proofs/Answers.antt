@@ -101,7 +101,7 @@ module _ (roster log itemBytes output : List ℕ) where
     pub made : assembled roster log itemBytes ≡ some bytes
     pub room : length bytes ≤ length output
 
-  pub output-fits : outputNumber roster log itemBytes output ≡ 0 → Fitted
+  output-fits : outputNumber roster log itemBytes output ≡ 0 → Fitted
   unfolding outputNumber Option·elim
   output-fits e = go (assembled roster log itemBytes) refl e
     where
@@ -130,7 +130,7 @@ module _ (roster log itemBytes output : List ℕ) where
   -- ---- what is written
 
   -- nothing where it is refused
-  pub nothing-written : (assembleNumber roster log itemBytes output ≡ 0 → ⊥) → assembledBytes roster log itemBytes output ≡ []
+  nothing-written : (assembleNumber roster log itemBytes output ≡ 0 → ⊥) → assembledBytes roster log itemBytes output ≡ []
   unfolding assembledBytes
   nothing-written h = rw (ne-eqb _ 0 h)
 

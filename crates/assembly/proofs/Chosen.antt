@@ -32,7 +32,7 @@ use Rattle.assembly.proofs.Whole.{Long, no-item, an-item}
 
 -- ---- one copy
 
-pub data Copy (roster : List ℕ) (S k : ℕ) (statement : List ℕ) : Option (List ℕ) → Type 0 where
+data Copy (roster : List ℕ) (S k : ℕ) (statement : List ℕ) : Option (List ℕ) → Type 0 where
   absent : Copy roster S k statement none
   present : {g : List ℕ} → good (keyOf roster k) statement g ≡ true → length g ≡ S → Copy roster S k statement (some g)
 
@@ -44,7 +44,7 @@ module _ (roster : List ℕ) where
       let b = all-cons (same (i .statement) statement) _ (a .1) in
       all-cons (good (keyOf roster k) statement (i .signature)) _ (b .1) .0
 
-  pub copy-good : (S k : ℕ) (statement : List ℕ) (is : List Item) → Long S is → Copy roster S k statement (copyOf roster k statement is)
+  copy-good : (S k : ℕ) (statement : List ℕ) (is : List Item) → Long S is → Copy roster S k statement (copyOf roster k statement is)
   unfolding copyOf
   copy-good S k statement [] no-item = absent
   copy-good S k statement (i ∷ is) (an-item l ls) = go (look (fits roster k statement i)) (copy-good S k statement is ls)
@@ -54,7 +54,7 @@ module _ (roster : List ℕ) where
       go (inl y) later = rw y (present (fitting k statement i y) l)
       go (inr n) later = rw n later
 
-  pub copies-length : (count k : ℕ) (statement : List ℕ) (is : List Item) → length (copiesFrom roster count k statement is) ≡ count
+  copies-length : (count k : ℕ) (statement : List ℕ) (is : List Item) → length (copiesFrom roster count k statement is) ≡ count
   unfolding copiesFrom
   copies-length zero k statement is = refl
   copies-length (suc count) k statement is = ap suc (copies-length count (suc k) statement is)
@@ -63,7 +63,7 @@ module _ (roster : List ℕ) where
 
 module _ (form : Form) (roster : List ℕ) (S : ℕ) (is : List Item) (long : Long S is) where
   module _ (claim : Claim) where
-    pub copies-sized : (count k : ℕ) → Sized S (copiesFrom roster count k (say form claim) is)
+    copies-sized : (count k : ℕ) → Sized S (copiesFrom roster count k (say form claim) is)
     unfolding copiesFrom
     copies-sized zero k = no-more
     copies-sized (suc count) k =

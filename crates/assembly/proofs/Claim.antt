@@ -74,12 +74,12 @@ module _ (roster log itemBytes : List ℕ) where
   all-led ls e = rw e
 
   -- bytes only where there is one
-  pub record MadeOf (s : List ℕ) : Type 0 where
-    pub leads : List Lead
-    pub found : leadsFor form roster (itemsGiven roster itemBytes) (runs (recordsGiven roster log)) ≡ some leads
-    pub encoded : encode S form 1 (viewWith roster log itemBytes leads) ≡ s
+  record MadeOf (s : List ℕ) : Type 0 where
+    leads : List Lead
+    found : leadsFor form roster (itemsGiven roster itemBytes) (runs (recordsGiven roster log)) ≡ some leads
+    encoded : encode S form 1 (viewWith roster log itemBytes leads) ≡ s
 
-  pub made-of : (s : List ℕ) → assembled roster log itemBytes ≡ some s → MadeOf s
+  made-of : (s : List ℕ) → assembled roster log itemBytes ≡ some s → MadeOf s
   unfolding assembled assembledView
   made-of s e = go (leadsFor form roster (itemsGiven roster itemBytes) (runs (recordsGiven roster log))) refl e
     where
@@ -114,7 +114,7 @@ module _ (roster log itemBytes : List ℕ) where
     leads-few : length (certificatesOf ls) ≤ leaderMost
     leads-few = rw (leads-count form roster S is long (runs records) ls lead .0) (terms-few (form .termBytes) log counted order)
 
-    pub view-writable : Writable roster (viewWith roster log itemBytes ls)
+    view-writable : Writable roster (viewWith roster log itemBytes ls)
     unfolding viewWith
     view-writable =
         let short = log-short form log counted in

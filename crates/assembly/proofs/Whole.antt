@@ -20,14 +20,14 @@ pub data Long (S : ℕ) : List Item → Type 0 where
 module _ (w S : ℕ) where
   -- ---- from the place on where the next item begins
 
-  pub items-skip : (k : ℕ) (itemBytes : List ℕ) → itemsAfter w S k itemBytes ≡ itemsAfter w S 0 (drop k itemBytes)
+  items-skip : (k : ℕ) (itemBytes : List ℕ) → itemsAfter w S k itemBytes ≡ itemsAfter w S 0 (drop k itemBytes)
   unfolding itemsAfter
   items-skip zero [] = refl
   items-skip zero (b ∷ bs) = refl
   items-skip (suc k) [] = refl
   items-skip (suc k) (b ∷ bs) = items-skip k bs
 
-  pub whole-skip : (k : ℕ) (itemBytes : List ℕ) → k ≤ length itemBytes → wholeAfter w S k itemBytes ≡ wholeAfter w S 0 (drop k itemBytes)
+  whole-skip : (k : ℕ) (itemBytes : List ℕ) → k ≤ length itemBytes → wholeAfter w S k itemBytes ≡ wholeAfter w S 0 (drop k itemBytes)
   unfolding wholeAfter
   whole-skip zero [] h = refl
   whole-skip zero (b ∷ bs) h = refl
@@ -62,7 +62,7 @@ module _ (w S : ℕ) where
 
   -- ---- a bag that does not end inside an item
 
-  pub whole-room : (k : ℕ) (itemBytes : List ℕ) → wholeAfter w S k itemBytes ≡ true → k ≤ length itemBytes
+  whole-room : (k : ℕ) (itemBytes : List ℕ) → wholeAfter w S k itemBytes ≡ true → k ≤ length itemBytes
   unfolding wholeAfter
   whole-room zero itemBytes e = omega arith
   whole-room (suc k) [] e = absurd (true≢false (sym e))

@@ -43,7 +43,7 @@ module _ (w S : ℕ) (itemBytes : List ℕ) (at : ℕ) where
   abbrev sizeAt : ℕ
   sizeAt = statementSize w (getD itemBytes (at + 2) 0)
 
-  abbrev pub placeAt : ItemPlace
+  abbrev placeAt : ItemPlace
   placeAt = record { replica = numberAt 2 itemBytes at; statement = at + 2; signature = at + 2 + sizeAt; next = at + 2 + sizeAt + S }
 
   read : 0 < sizeAt → at + 2 + sizeAt + S ≤ length itemBytes → Read placeAt ≡ itemReading w S itemBytes at
@@ -68,7 +68,7 @@ module _ (w S : ℕ) (itemBytes : List ℕ) (at : ℕ) where
   unfolding itemReading all
   cut-off h = ⊎-elim (λ (e : ltb 0 sizeAt ≡ true). rw (e, lt-leb _ _ h)) (λ (e : ltb 0 sizeAt ≡ false). rw e) (look (ltb 0 sizeAt))
 
-  pub read-says : {i : ItemPlace} → itemReading w S itemBytes at ≡ Read i → (i ≡ placeAt) × (0 < sizeAt) × (at + 2 + sizeAt + S ≤ length itemBytes)
+  read-says : {i : ItemPlace} → itemReading w S itemBytes at ≡ Read i → (i ≡ placeAt) × (0 < sizeAt) × (at + 2 + sizeAt + S ≤ length itemBytes)
   read-says e =
       ⊎-elim
       (λ (h : ltb 0 sizeAt ≡ true).
@@ -116,7 +116,7 @@ module _ (w S : ℕ) (itemBytes : List ℕ) (at : ℕ) where
     nonempty : 0 < length (drop at itemBytes)
     nonempty = rw length-drop (omega arith)
 
-    pub whole-read : whole w S (drop at itemBytes) ≡ true → Read placeAt ≡ itemReading w S itemBytes at
+    whole-read : whole w S (drop at itemBytes) ≡ true → Read placeAt ≡ itemReading w S itemBytes at
     whole-read e =
         let says = whole-first w S (drop at itemBytes) nonempty e in
         read (rw size-here at (says .0)) (omega (arith, says .1, end-here, length-drop at itemBytes))

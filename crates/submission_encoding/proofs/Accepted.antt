@@ -28,12 +28,12 @@ use Rattle.submission_encoding.proofs.Trim.{trimView, slots-trim, sound
 
 -- what a view needs, so that its bytes are accepted
 pub record Writable (roster : List ℕ) (v : View) : Type 0 where
-  pub encodable : Encodable (formOf roster) (signatureSize roster) 1 v
-  pub sound : Sound (formOf roster) (replicas roster) v
-  pub records : length (v .log) ≤ recordMost
-  pub terms : length (v .leaders) ≤ leaderMost
-  pub small : length (encode (signatureSize roster) (formOf roster) 1 v) ≤ submissionMost
-  pub signatures : every (genuine (formOf roster) roster) (slots (signatureSize roster) v) ≡ true
+  encodable : Encodable (formOf roster) (signatureSize roster) 1 v
+  sound : Sound (formOf roster) (replicas roster) v
+  records : length (v .log) ≤ recordMost
+  terms : length (v .leaders) ≤ leaderMost
+  small : length (encode (signatureSize roster) (formOf roster) 1 v) ≤ submissionMost
+  signatures : every (genuine (formOf roster) roster) (slots (signatureSize roster) v) ≡ true
 
 -- against an accepted roster no size has to be asked: it is at most 1,404,446 bytes
 pub writable : (roster : List ℕ) (v : View) → rosterNumber roster ≡ 0 → Fitting (formOf roster) (signatureSize roster) v

@@ -63,7 +63,7 @@ module _ (form : Form) where
   -- ---- a vote's fields
 
   module _ (b : Ballot) (fits : BallotFits form b) (s : List ℕ) (at : ℕ) (rest : List ℕ) (e : drop at s ≡ ballotBytes form b ++ rest) where
-    pub ballot-read : (ballotAt (form .termBytes) s at ≡ b) × (drop (at + ballotSize (form .termBytes)) s ≡ rest)
+    ballot-read : (ballotAt (form .termBytes) s at ≡ b) × (drop (at + ballotSize (form .termBytes)) s ≡ rest)
     unfolding ballotAt ballotBytes ballotSize
     ballot-read =
         let w = form .termBytes in
@@ -133,10 +133,10 @@ module _ (form : Form) (S : ℕ) where
     none-fit : AllFit []
     more-fit : {c : Certificate} {cs : List Certificate} → CertificateFits c → AllFit cs → AllFit (c ∷ cs)
 
-  pub record Back (s : List ℕ) (at : ℕ) (c : Certificate) (rest : List ℕ) : Type 0 where
-    pub same : trimmed S (certificateAt (form .termBytes) s at) ≡ trimmed S c
-    pub end : certificateEnd (form .termBytes) S s at ≡ at + length (certificateBytes S form c)
-    pub after : drop (certificateEnd (form .termBytes) S s at) s ≡ rest
+  record Back (s : List ℕ) (at : ℕ) (c : Certificate) (rest : List ℕ) : Type 0 where
+    same : trimmed S (certificateAt (form .termBytes) s at) ≡ trimmed S c
+    end : certificateEnd (form .termBytes) S s at ≡ at + length (certificateBytes S form c)
+    after : drop (certificateEnd (form .termBytes) S s at) s ≡ rest
 
   pub certificate-length : (c : Certificate) → CertificateFits c
       → length (certificateBytes S form c) ≡ ballotSize (form .termBytes) + 2 + S * ones (c .signers)
