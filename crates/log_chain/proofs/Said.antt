@@ -1,5 +1,5 @@
 -- Two claims with the same bytes are the same claim, if their fields fit and no two of their chain strings have one SHA-256
--- value: the kind bytes differ, and every field has its width.
+-- value: the kind bytes differ, and every field has its width. And a stamp and a receipt by the fields that the code holds.
 -- Assumes nothing.
 use mathlib.Core.Path.{_≡_, refl, ap}
 use mathlib.Core.List.{List, [], _∷_, _++_, append-assoc}
