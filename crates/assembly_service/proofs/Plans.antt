@@ -79,16 +79,19 @@ module _ (roster log itemBytes : List ℕ) (ok : Checked roster log itemBytes) w
         let zero-end : takenSize * count + 0 ≡ takenSize * count = omega arith in
         record {
           name = omega (arith, s .low, s .size);
-          width = omega arith;
-          size = signature-bounds roster (ok .fine) .1;
-          replicas = s .high;
           records = few-records;
           logged = whole-log;
           leaders = terms;
-          few = few;
           tabled = tabled;
-          rows = omega (arith, room, few);
-          candidates = λ t h. rw (kept-at taken chosen (takenSize * count) (takenSize * t) (omega (arith, h)) kept) (held .candidates t h);
           index = rw (ap (λ j. getD taken j 0) (sym zero-end), ← getD-drop (takenSize * count) taken 0 0) (row .index);
-          places = places;
+          held =
+              record {
+                width = omega arith;
+                size = signature-bounds roster (ok .fine) .1;
+                replicas = s .high;
+                few = few;
+                long = omega (arith, room, few);
+                candidates = λ t h. rw (kept-at taken chosen (takenSize * count) (takenSize * t) (omega (arith, h)) kept) (held .candidates t h);
+                inside = places;
+              };
         }

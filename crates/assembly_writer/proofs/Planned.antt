@@ -24,7 +24,7 @@ use Rattle.assembly_terms.specs.Wanted.{voteHead, voteTail, voteEnd, votesWante
 use Rattle.assembly_terms.proofs.Wanted.{vote-end-size, vote-head-size}
 use Rattle.assembly_writer.specs.declared.Plan.{Plan}
 use Rattle.assembly_writer.specs.declared.Sizes.{Sizes}
-use Rattle.assembly_writer.specs.Parts.{leadersPart, stampsPart, commitPart, certifiedPart, SizesOf, fieldsFor, fieldCount, fieldsPart, trailerPart, RowsInside}
+use Rattle.assembly_writer.specs.Parts.{leadersPart, stampsPart, commitPart, certifiedPart, SizesOf, fieldsFor, fieldCount, fieldsPart, trailerPart}
 use Rattle.assembly_writer.specs.Written.{viewTaken, bytesTaken, Planned}
 use Rattle.assembly_writer.proofs.Lent.{over-first, Begun, rest-put}
 use Rattle.assembly_writer.proofs.Joined.{joined-long}
@@ -73,18 +73,6 @@ own-sizes itemBytes p votes taken = record { leaders = refl; stamps = refl; comm
 -- ---- the plan
 
 module _ {roster log itemBytes votes : List ℕ} {p : Plan} {taken : List ℕ} (plan : Planned roster log itemBytes votes p taken) where
-  pub rows-held : RowsInside itemBytes p taken
-  rows-held =
-      record {
-        width = plan .width;
-        size = plan .size;
-        replicas = plan .replicas;
-        few = plan .few;
-        long = plan .rows;
-        candidates = plan .candidates;
-        inside = plan .places;
-      }
-
   abbrev name : List ℕ
   name = cluster roster
 
@@ -116,9 +104,9 @@ module _ {roster log itemBytes votes : List ℕ} {p : Plan} {taken : List ℕ} (
     unfolding bytesTaken viewTaken encode trailerBytes
     view-parts =
         let one = log-bytes (p .width) name (p .records) log bytes (plan .logged) in
-        let two = leaders-bytes itemBytes votes taken name p rows-held named terms (plan .leaders) (plan .tabled) in
-        let three = stamps-bytes itemBytes votes taken name p rows-held named terms (plan .leaders) in
-        let four = commit-bytes (p .size) itemBytes form (p .replicas) (drop (takenSize * p .leaders) taken) (commit-row-places rows-held) in
+        let two = leaders-bytes itemBytes votes taken name p (plan .held) named terms (plan .leaders) (plan .tabled) in
+        let three = stamps-bytes itemBytes votes taken name p (plan .held) named terms (plan .leaders) in
+        let four = commit-bytes (p .size) itemBytes form (p .replicas) (drop (takenSize * p .leaders) taken) (commit-row-places (plan .held)) in
         let H = length-records (p .width) (p .records) log in
         let L : length (map (λ (l : Lead). l .certificate) ls) ≡ p .leaders =
         length-map ls (λ (l : Lead). l .certificate) ∙ leads-count (p .size) itemBytes form (p .replicas) taken terms ∙ sym (plan .leaders) in
@@ -205,7 +193,7 @@ module _ {roster log itemBytes votes : List ℕ} {p : Plan} {taken : List ℕ} (
 
         pub sizes-small : length log + (s .leaders + (s .stamps + s .commit)) < 4294967296
         sizes-small =
-            omega (arith, parts-small rows-held votes (plan .logged) (plan .records), sizes .leaders, sizes .stamps, sizes .commit)
+            omega (arith, parts-small (plan .held) votes (plan .logged) (plan .records), sizes .leaders, sizes .stamps, sizes .commit)
 
         trailer-begun : {out : List ℕ} → out ≡ over (log ++ certified) e
             → Begun (log ++ certified) (trailerPart name (fieldsFor p (length log) s)) e out (length log + (s .leaders + (s .stamps + s .commit)))

@@ -1,20 +1,19 @@
 -- What the writer asks for, and what it writes: the view that the tables stand for.
 use mathlib.Core.Path.{_≡_}
 use mathlib.Core.List.{List, map}
-use Prim.Native.Nat.{ℕ, _+_, _-_, _*_, _≤_, _<_}
+use Prim.Native.Nat.{ℕ, _*_, _≤_}
 use lib.ListN.{length, getD, drop}
-use Rattle.words.specs.Widths.{widthMost}
 use Rattle.roster.specs.Roster.{nameSize, cluster}
-use Rattle.roster.specs.Sizes.{signatureMost}
 use Rattle.log_chain.specs.Log.{Form, withTerms, Record}
 use Rattle.log_chain.specs.Records.{recordSize, recordsOf}
 use Rattle.log_chain.specs.Runs.{runs}
 use Rattle.submission.specs.View.{View}
-use Rattle.submission.specs.Validate.{recordMost, leaderMost}
+use Rattle.submission.specs.Validate.{recordMost}
 use Rattle.submission_encoding.specs.Encoding.{encode}
-use Rattle.assembly_copies.specs.Rows.{replicasMost, takenSize, leadsIn, commitIn}
+use Rattle.assembly_copies.specs.Rows.{takenSize, leadsIn, commitIn}
 use Rattle.assembly_terms.specs.Wanted.{VotesIn}
 use Rattle.assembly_writer.specs.declared.Plan.{Plan}
+use Rattle.assembly_writer.specs.Parts.{RowsInside}
 
 module _ (roster log itemBytes : List ℕ) (p : Plan) (taken : List ℕ) where
   abbrev pub formTaken : Form
@@ -40,17 +39,10 @@ module _ (roster log itemBytes : List ℕ) (p : Plan) (taken : List ℕ) where
 -- what it asks for: a whole log with so many terms, the votes' table, and rows with places inside the bag
 pub record Planned (roster log itemBytes votes : List ℕ) (p : Plan) (taken : List ℕ) : Type 0 where
   pub name : nameSize ≤ length roster
-  pub width : p .width ≤ widthMost
-  pub size : p .size ≤ signatureMost
-  pub replicas : p .replicas ≤ replicasMost
   pub records : p .records ≤ recordMost
   pub logged : recordSize (p .width) * p .records ≡ length log
   pub leaders : p .leaders ≡ length (runs (recordsOf (p .width) (p .records) log))
-  pub few : p .leaders ≤ leaderMost
   pub tabled : VotesIn (withTerms (p .width) (cluster roster)) 1
       (runs (recordsOf (p .width) (p .records) log)) votes
-  pub rows : takenSize * (p .leaders + 1) ≤ length taken
-  pub candidates : (t : ℕ) → t < p .leaders → getD taken (takenSize * t) 0 ≤ p .replicas
   pub index : getD taken (takenSize * p .leaders) 0 ≤ p .records
-  pub places : (t k : ℕ) → t ≤ p .leaders → 0 < k → k < takenSize
-      → getD taken (takenSize * t + k) 0 ≤ length itemBytes - p .size
+  pub held : RowsInside itemBytes p taken

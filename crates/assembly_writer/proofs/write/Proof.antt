@@ -8,7 +8,7 @@ use Rattle.words.specs.Over.{over}
 use Rattle.words.proofs.Laws.{bytes-each}
 use Rattle.roster.specs.Roster.{cluster}
 use Rattle.assembly_writer.proofs.Lent.{begun-long, rest-inside, rest-room, rest-put}
-use Rattle.assembly_writer.proofs.Planned.{rows-held, votes-room, index-small, bytes-parts, log-room, log-begun, sizes-small, certified-put}
+use Rattle.assembly_writer.proofs.Planned.{votes-room, index-small, bytes-parts, log-room, log-begun, sizes-small, certified-put}
 use Rattle.assembly_writer.proofs.write.Statement.{statement}
 use Rattle.assembly_writer.proofs.write.Tie as tie
 
@@ -42,7 +42,7 @@ put-certified-requires c κs =
     let a = start .args in
     let known = bytes-each (a .log .now) (λ j. head .before .before .before .before .before .shared-slice-known2 .given j .fits) in
     let b = log-begun (start .pre .0) known (a .out .now) (start .pre .1) (head .put-bytes .ensures) in
-    (rows-held (start .pre .0), votes-room (start .pre .0), index-small (start .pre .0), rest-room b)
+    (start .pre .0 .held, votes-room (start .pre .0), index-small (start .pre .0), rest-room b)
 
 trailer-fields-requires : tie.Need-trailer-fields-requires
 trailer-fields-requires c κs =
@@ -52,7 +52,7 @@ trailer-fields-requires c κs =
     let a = start .args in
     let known = bytes-each (a .log .now) (λ j. head .before .before .before .before .before .shared-slice-known2 .given j .fits) in
     let small = sizes-small (start .pre .0) known (a .out .now) (start .pre .1) (certified .put-certified .ensures .0) in
-    (omega (arith, start .pre .0 .records), omega (arith, start .pre .0 .few), small)
+    (omega (arith, start .pre .0 .records), omega (arith, start .pre .0 .held .few), small)
 
 add-at : tie.Need-add-at
 add-at c =

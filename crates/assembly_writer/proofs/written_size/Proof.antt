@@ -6,7 +6,7 @@ use borrow.Author.Needs.{needs}
 use Rattle.words.proofs.Laws.{bytes-each, part-end}
 use Rattle.assembly_copies.specs.Rows.{takenSize}
 use Rattle.assembly_writer.proofs.Rows.{commit-row-places}
-use Rattle.assembly_writer.proofs.Planned.{rows-held, votes-room, written-long}
+use Rattle.assembly_writer.proofs.Planned.{votes-room, written-long}
 use Rattle.assembly_writer.proofs.written_size.Statement.{statement}
 use Rattle.assembly_writer.proofs.written_size.Tie as tie
 
@@ -20,8 +20,8 @@ returns c =
     omega (
       arith,
       written-long plan known,
-      c .before .before .leads-size .ensures .0 (a .items .now) (a .votes .now) (rows-held plan) (votes-room plan),
-      commit (a .items .now) (commit-row-places (rows-held plan)),
+      c .before .before .leads-size .ensures .0 (a .items .now) (a .votes .now) (plan .held) (votes-room plan),
+      commit (a .items .now) (commit-row-places (plan .held)),
     )
 
 pub written-size-spec : {M : Type 1} → statement M
