@@ -1,5 +1,5 @@
 // The leaders (document 02, W3): for each term of a log the lowest-numbered candidate with a quorum of votes,
-// his own among them, and a stamp. Candidates are tried from n down, and the last one that will do stays.
+// its own among them, and a stamp. Candidates are tried from n down, and the last one that will do stays.
 ghost use mathlib.Core.Path.{_≡_};
 ghost use mathlib.Core.List.{List};
 ghost use Prim.Native.Nat.{ℕ, _-_, _*_, _≤_, _<_};
@@ -39,7 +39,7 @@ fn all_taken(taken: &[usize], count: usize) -> bool
     true
 }
 
-// Whether a candidate has a quorum of votes, his own among them, and a stamp.
+// Whether a candidate has a quorum of votes, its own among them, and a stamp.
 fn is_electable(n: usize, mask: u16, candidate: usize, stamp: usize) -> bool
     requires { ⌜ (0 < n) × (n ≤ replicasMost) × (0 < candidate) ⌝ }
     ensures { λ r. ⌜ r ≡ electable n mask candidate stamp ⌝ }
@@ -53,7 +53,7 @@ fn is_electable(n: usize, mask: u16, candidate: usize, stamp: usize) -> bool
     stamp != 0
 }
 
-// Puts a candidate down for each term in which he will do.
+// Puts a candidate down for each term in which it will do.
 fn settle(
     n: usize,
     candidate: usize,
@@ -102,13 +102,13 @@ fn find_stamps(roster: &[u8], items: &[u8], stamps: &[u8], terms: Terms, stamped
         width,
         size: terms.size,
         head: assembly_terms::STAMP_HEAD,
-        tail: width + log_chain::INDEX_SIZE + log_chain::POINTER_SIZE,
+        tail: assembly_terms::stamp_tail(width),
         count: terms.count,
     };
     assembly_copies::find_copies(roster, items, stamps, sought, stamped);
 }
 
-// Finds the votes for a candidate in each term; the votes' table is left for him.
+// Finds the votes for a candidate in each term; the votes' table is left for it.
 fn find_votes(
     roster: &[u8],
     items: &[u8],
@@ -134,13 +134,13 @@ fn find_votes(
         width,
         size: terms.size,
         head: assembly_terms::VOTE_HEAD,
-        tail: width + width + log_chain::INDEX_SIZE + log_chain::POINTER_SIZE,
+        tail: assembly_terms::vote_tail(width),
         count: terms.count,
     };
     assembly_copies::find_copies(roster, items, votes, sought, voted);
 }
 
-// Tries a candidate: finds his votes, and puts him down for each term in which he will do.
+// Tries a candidate: finds its votes, and puts it down for each term in which it will do.
 fn try_candidate(
     roster: &[u8],
     items: &[u8],

@@ -79,13 +79,14 @@ module _ (head n : ℕ) (f : Run → List ℕ) where
         let long : length b ≡ at =
         length-append front (flatMap f done) ∙ rw (length-take-le head entry (omega (arith, filled .size, filled .room)), rows-length f n each done) (sym (filled .next)) in
         let count : length (done ++ (x ∷ [])) ≡ suc (length done) = omega (arith, length-append done (x ∷ [])) in
-        let kept = lent-length b table (filled .added) (f x) last at long put (omega (arith, filled-room, each x)) in
+        let room : at + length (f x) ≤ length table = omega (arith, filled-room, each x) in
+        let kept = lent-length b table (filled .added) (f x) last at long room put in
         record {
           next = rw (count, mul-suc) (omega (arith, filled .next, e));
           inside = omega (arith, filled-room, e, kept);
           size = kept ∙ filled .size;
           room = rw kept (filled .room);
-          added = ap (λ (l : List ℕ). take (length l) (putMid at (length table - at) table last)) (sym whole) ∙ begins-more b table (filled .added) (f x) last at long put ∙ whole;
+          added = ap (λ (l : List ℕ). take (length l) (putMid at (length table - at) table last)) (sym whole) ∙ begins-more b table (filled .added) (f x) last at long room put ∙ whole;
         }
 
 -- ---- both tables

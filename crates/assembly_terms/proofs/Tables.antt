@@ -9,7 +9,7 @@ use borrow.Rule.Slice.PartMut.{putMid}
 use lib.ListN.{length, getD, take, drop, length-append, length-take, length-drop, take-append-drop}
 use lib.Seq.{sets, sets-eq, take-at, drop-at, take-append-le, drop-append-le, drop-append-add, drop-drop}
 use Rattle.words.specs.Over.{over}
-use Rattle.words.proofs.Over.{lent-on, over-length, over-taken, over-next}
+use Rattle.words.proofs.Over.{over-length, over-taken, over-next, over-first, Begun, begun-first, rest-put}
 
 -- ---- lists of one length, joined
 
@@ -37,20 +37,20 @@ module _ {A : Type 0} (f : A → List ℕ) (n : ℕ) (each : (x : A) → length 
 
 pub three-put : (e a b d : List ℕ) (i j : ℕ) → length a ≡ i → i + length b ≡ j → j + length d ≤ length e
     → sets (sets (sets e 0 a) i b) j d ≡ over (a ++ b ++ d) e
-unfolding over
 three-put e a b d i j first second room =
     let two : length (a ++ b) ≡ j = length-append a b ∙ rw first second in
     rw (
-      over-next [] e a 0 refl (omega arith),
+      over-first e a (omega arith),
       over-next a e b i first (omega arith),
       over-next (a ++ b) e d j two room,
     )
 
 -- the second put into the rest that was lent on
-pub lent-second : (e out last a B : List ℕ) (i : ℕ) → length a ≡ i → i ≤ length e → out ≡ sets e 0 a
+pub lent-second : (e out last a B : List ℕ) (i : ℕ) → length a ≡ i → i + length B ≤ length e → out ≡ sets e 0 a
     → last ≡ over B (take (length out - i) (drop i out)) → putMid i (length out - i) out last ≡ over (a ++ B) e
-unfolding over
-lent-second e out last a B i first room o l = rw (l, o, over-next [] e a 0 refl (omega arith)) (lent-on a e B i first (omega arith))
+lent-second e out last a B i first room o l =
+    let begun : Begun a B e out i = begun-first (rw (length-append, first) room) o (sym first) in
+    rest-put begun refl l .1
 
 -- ---- a table that begins with some bytes
 
@@ -68,19 +68,22 @@ module _ (b t : List ℕ) (h : take (length b) t ≡ b) where
       ∙ take-append-le n (drop i b) _ (rw length-drop (omega arith))
 
   -- with what is written behind them, in the rest that was lent on
-  module _ (B last : List ℕ) (at : ℕ) (size : length b ≡ at) (put : last ≡ over B (take (length t - at) (drop at t))) where
+  module _ (B last : List ℕ) (at : ℕ) (size : length b ≡ at) (room : at + length B ≤ length t)
+      (put : last ≡ over B (take (length t - at) (drop at t))) where
+    whole-room : length (b ++ B) ≤ length t
+    whole-room = rw (length-append, size) room
+
     after-lent : putMid at (length t - at) t last ≡ over (b ++ B) t
     unfolding over
     after-lent =
-        ap (putMid at (length t - at) t) put
-        ∙ ap (λ (l : List ℕ). putMid at (length l - at) l (over B (take (length l - at) (drop at l)))) (sym begins)
-        ∙ lent-on b t B at size begins-room
+        let begun : Begun b B t t at = record { room = whole-room; put = sym begins; here = sym size } in
+        rest-put begun refl put .1
 
     pub begins-more : take (length (b ++ B)) (putMid at (length t - at) t last) ≡ b ++ B
     begins-more = ap (take (length (b ++ B))) after-lent ∙ over-taken (b ++ B) t (length (b ++ B)) refl
 
-    pub lent-length : at + length B ≤ length t → length (putMid at (length t - at) t last) ≡ length t
-    lent-length room = ap length after-lent ∙ over-length (b ++ B) t (rw length-append (omega arith))
+    pub lent-length : length (putMid at (length t - at) t last) ≡ length t
+    lent-length = ap length after-lent ∙ over-length (b ++ B) t whole-room
 
 -- other bytes of the same number in their place
 pub begins-set : (front old rest new t : List ℕ) (at : ℕ) → length front ≡ at → length new ≡ length old

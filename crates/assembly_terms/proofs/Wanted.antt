@@ -2,7 +2,7 @@
 -- Assumes nothing.
 use mathlib.Core.Path.{_≡_, refl, sym, _∙_}
 use mathlib.Core.List.{List, [], _∷_, _++_, append-assoc, flatMap}
-use Prim.Native.Nat.{ℕ, _+_, _*_, _<_}
+use Prim.Native.Nat.{ℕ, _+_, _*_, _≤_, _<_}
 use native.Mathlib.Omega.{arith}
 use lib.ListN.{length, getD, take, drop, replicate, length-append}
 use lib.Seq.{sets}
@@ -17,7 +17,7 @@ use Rattle.assembly.specs.Choice.{ballotFor}
 use Rattle.assembly_copies.specs.declared.Sought.{Sought}
 use Rattle.assembly_copies.specs.Sought.{statementAt}
 use Rattle.assembly_terms.specs.Wanted.{voteHead, voteTail, stampHead, stampTail, voteEnd, stampEnd, votesWanted, stampsWanted, VotesIn, StampsIn}
-use Rattle.assembly_terms.proofs.Tables.{begins-set, table-head, table-row}
+use Rattle.assembly_terms.proofs.Tables.{rows-length, begins-room, begins-set, table-head, table-row}
 
 module _ (form : Form) where
   -- ---- what a statement ends with
@@ -58,6 +58,20 @@ module _ (form : Form) where
       votes-set c d h =
           begins-set ((form .firstKind + 2) ∷ form .cluster) (be 2 c) (flatMap (voteEnd form) rs) (be 2 d) t stampHead (omega arith)
           (length-be 2 d ∙ sym (length-be 2 c)) h
+
+      -- all of them are there
+      pub votes-long : (c : ℕ) → VotesIn form c rs t → voteHead + voteTail (form .termBytes) * length rs ≤ length t
+      unfolding VotesIn votesWanted
+      votes-long c h =
+          let head = (form .firstKind + 2) ∷ form .cluster ++ be 2 c in
+          let ends = flatMap (voteEnd form) rs in
+          omega (
+            arith,
+            begins-room (head ++ ends) t h,
+            length-append head ends,
+            vote-head-size c,
+            rows-length (voteEnd form) (voteTail (form .termBytes)) vote-end-size rs,
+          )
 
       -- what all begin with
       vote-begins : (c : ℕ) → VotesIn form c rs t → take voteHead t ≡ (form .firstKind + 2) ∷ form .cluster ++ be 2 c

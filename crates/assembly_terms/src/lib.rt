@@ -29,6 +29,22 @@ pub const VOTE_HEAD: usize = CANDIDATE_AT + 2;
 
 pub const STAMP_HEAD: usize = log_chain::NAME_AT + roster::NAME_SIZE;
 
+// What a stamp has of its own, behind its head: term, index, pointer.
+pub fn stamp_tail(width: usize) -> usize
+    requires { ⌜ width ≤ widthMost ⌝ }
+    ensures { λ r. ⌜ (r ≡ stampTail width) × (r ≤ stampTail widthMost) ⌝ }
+{
+    width + log_chain::INDEX_SIZE + log_chain::POINTER_SIZE
+}
+
+// And a vote: its term, and the same of the record before it.
+pub fn vote_tail(width: usize) -> usize
+    requires { ⌜ width ≤ widthMost ⌝ }
+    ensures { λ r. ⌜ (r ≡ voteTail width) × (r ≤ voteTail widthMost) ⌝ }
+{
+    width + stamp_tail(width)
+}
+
 // Writes a place to the start of a buffer, and gives the number of its bytes: term, index, pointer.
 fn put_place(out: &mut [u8], width: usize, term: u64, index: u32, pointer: State) -> usize
     requires { ⌜ (width ≤ widthMost) × (stampTail width ≤ length (now out)) ⌝ }
@@ -39,7 +55,7 @@ fn put_place(out: &mut [u8], width: usize, term: u64, index: u32, pointer: State
     words::put_number(out, 0, width, term);
     words::put_u32(out, width, index);
     lm_hash::put_value(out, width + log_chain::INDEX_SIZE, pointer);
-    width + log_chain::INDEX_SIZE + log_chain::POINTER_SIZE
+    stamp_tail(width)
 }
 
 // The same for the place of the last record where a walk has come to: the end of a stamp on it.

@@ -9,7 +9,7 @@ use Rattle.words.specs.Over.{over}
 use Rattle.assembly_copies.specs.Rows.{takenSize}
 use Rattle.assembly_writer.specs.declared.Plan.{Plan}
 use Rattle.assembly_writer.specs.Parts.{leadersPart, stampsPart, commitPart, certifiedPart}
-use Rattle.assembly_writer.proofs.Lent.{Begun}
+use Rattle.words.proofs.Over.{Begun}
 
 module _ (itemBytes votes taken e : List ℕ) (p : Plan) (room : length (certifiedPart itemBytes p votes taken) ≤ length e) where
   abbrev two : List ℕ

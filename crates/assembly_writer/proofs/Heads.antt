@@ -10,9 +10,19 @@ use lib.Seq.{sets}
 use Rattle.words.specs.BigEndian.{be}
 use Rattle.words.specs.Over.{over}
 use Rattle.words.proofs.Laws.{length-be}
-use Rattle.words.proofs.Over.{over-nothing, over-next}
 use Rattle.assembly_writer.specs.Parts.{signedAt, certificateIn, commitPart, fieldsPart, trailerPart}
-use Rattle.assembly_writer.proofs.Lent.{over-first, Begun}
+use Rattle.words.proofs.Over.{over-nothing, over-next, over-first, Begun, begun-first}
+
+pub certificate-long : (S : ℕ) (itemBytes : List ℕ) (n : ℕ) (end row : List ℕ)
+    → length (certificateIn S itemBytes n end row) ≡ 2 + length end + length (signedAt S itemBytes n (drop 2 row))
+unfolding certificateIn
+certificate-long S itemBytes n end row =
+    omega (
+      arith,
+      length-append (be 2 (getD row 0 0) ++ end) (signedAt S itemBytes n (drop 2 row)),
+      length-append (be 2 (getD row 0 0)) end,
+      length-be 2 (getD row 0 0),
+    )
 
 -- a number of so many bytes at the start
 pub number-first : (w x : ℕ) (e : List ℕ) → w ≤ length e → sets e 0 (be w x) ≡ over (be w x) e
@@ -23,9 +33,7 @@ module _ (S : ℕ) (itemBytes : List ℕ) (n : ℕ) (end row e : List ℕ) (room
   candidate = be 2 (getD row 0 0)
 
   pub certificate-head : 2 + length end ≤ length e
-  unfolding certificateIn
-  certificate-head =
-      omega (arith, room, length-append (candidate ++ end) (signedAt S itemBytes n (drop 2 row)), length-append candidate end, length-be 2 (getD row 0 0))
+  certificate-head = omega (arith, room, certificate-long S itemBytes n end row)
 
   pub certificate-begun : {one out : List ℕ} → one ≡ sets e 0 candidate → out ≡ sets one 2 end
       → Begun (candidate ++ end) (signedAt S itemBytes n (drop 2 row)) e out (2 + length end)
@@ -59,12 +67,7 @@ module _ (S : ℕ) (itemBytes : List ℕ) (n : ℕ) (row e : List ℕ) where
           omega (arith, room, ap length commit-some, length-append index (signedAt S itemBytes n (drop 2 row)), length-be 4 (getD row 0 0))
 
       pub commit-begun : {out : List ℕ} → out ≡ sets e 0 index → Begun index (signedAt S itemBytes n (drop 2 row)) e out 4
-      commit-begun p =
-          record {
-            room = omega (arith, ap length commit-some);
-            put = p ∙ number-first 4 (getD row 0 0) e commit-head;
-            here = sym (length-be 4 (getD row 0 0));
-          }
+      commit-begun p = begun-first (omega (arith, ap length commit-some)) p (sym (length-be 4 (getD row 0 0)))
 
 -- ---- the trailer's name
 
@@ -75,4 +78,4 @@ module _ (name fields e : List ℕ) (room : length (trailerPart name fields) ≤
 
   pub name-begun : {out : List ℕ} → out ≡ sets e 0 name → Begun name (fieldsPart fields) e out (length name)
   unfolding trailerPart
-  name-begun p = record { room = room; put = p ∙ over-first e name name-room; here = refl }
+  name-begun p = begun-first room p refl

@@ -16,7 +16,7 @@ use Rattle.words.specs.Over.{over}
 use Rattle.words.proofs.Over.{over-length, over-nothing}
 use Rattle.refusal.proofs.Laws.{look}
 use Rattle.assembly_writer.specs.Parts.{joined}
-use Rattle.assembly_writer.proofs.Lent.{Begun, rest-inside, rest-room, rest-put}
+use Rattle.words.proofs.Over.{Begun, rest-inside, rest-room, rest-put}
 
 module _ (part : ℕ → List ℕ) where
   pub joined-next : (i : ℕ) → joined part (i + 1) ≡ joined part i ++ part i

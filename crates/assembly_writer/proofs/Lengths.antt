@@ -37,17 +37,6 @@ module _ (S n : ℕ) (places : List ℕ) {mask : ℕ} (signers : (S : ℕ) (item
 
 -- ---- a row
 
-pub certificate-long : (S : ℕ) (itemBytes : List ℕ) (n : ℕ) (end row : List ℕ)
-    → length (certificateIn S itemBytes n end row) ≡ 2 + length end + length (signedAt S itemBytes n (drop 2 row))
-unfolding certificateIn
-certificate-long S itemBytes n end row =
-    omega (
-      arith,
-      length-append (be 2 (getD row 0 0) ++ end) (signedAt S itemBytes n (drop 2 row)),
-      length-append (be 2 (getD row 0 0)) end,
-      length-be 2 (getD row 0 0),
-    )
-
 pub row-cut-long : (taken : List ℕ) (t count : ℕ) → t < count → takenSize * count ≤ length taken → length (rowAt taken t) ≡ takenSize
 row-cut-long taken t count less h = length-take-le takenSize (drop (takenSize * t) taken) (rw length-drop (omega arith))
 

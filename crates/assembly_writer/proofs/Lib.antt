@@ -1,4 +1,3 @@
-pub mod Lent
 pub mod Joined
 pub mod Signatures
 pub mod Signed

@@ -1,12 +1,11 @@
 -- What a plan gives the writers, and that what they write is the bytes of its view.
 -- Assumes nothing.
 use mathlib.Core.Path.{_≡_, refl, sym, ap, _∙_}
-use mathlib.Core.List.{List, [], _∷_, _++_, map, flatMap}
+use mathlib.Core.List.{List, [], _∷_, _++_, map}
 use Prim.Native.Nat.{ℕ, _+_, _-_, _*_, _≤_, _<_}
-use native.Mathlib.Nat.{mul-zero, mul-suc, add-comm}
 use native.Mathlib.Omega.{arith}
 use borrow.Rule.Slice.PartMut.{putMid}
-use lib.ListN.{length, getD, take, drop, length-append, length-take, length-map}
+use lib.ListN.{length, getD, take, drop, length-append, length-map}
 use lib.Seq.{length-take-le, sets}
 use Rattle.words.specs.BigEndian.{be}
 use Rattle.words.specs.Over.{over}
@@ -17,44 +16,22 @@ use Rattle.log_chain.specs.Log.{Form, withTerms}
 use Rattle.log_chain.specs.Records.{recordsOf}
 use Rattle.log_chain.proofs.Records.{length-records}
 use Rattle.log_chain.specs.Runs.{Run, runs}
+use Rattle.submission.specs.Trailer.{trailerSize}
 use Rattle.submission.specs.View.{Lead}
 use Rattle.submission_encoding.specs.Encoding.{trailerBytes, encode}
 use Rattle.assembly_copies.specs.Rows.{takenSize, leadsIn}
-use Rattle.assembly_terms.specs.Wanted.{voteHead, voteTail, voteEnd, votesWanted, VotesIn}
-use Rattle.assembly_terms.proofs.Wanted.{vote-end-size, vote-head-size}
+use Rattle.assembly_terms.specs.Wanted.{voteHead, voteTail}
+use Rattle.assembly_terms.proofs.Wanted.{votes-long}
 use Rattle.assembly_writer.specs.declared.Plan.{Plan}
 use Rattle.assembly_writer.specs.declared.Sizes.{Sizes}
 use Rattle.assembly_writer.specs.Parts.{leadersPart, stampsPart, commitPart, certifiedPart, SizesOf, fieldsFor, fieldCount, fieldsPart, trailerPart}
 use Rattle.assembly_writer.specs.Written.{viewTaken, bytesTaken, Planned}
-use Rattle.assembly_writer.proofs.Lent.{over-first, Begun, rest-put}
+use Rattle.words.proofs.Over.{Begun, begun-first, rest-put}
 use Rattle.assembly_writer.proofs.Joined.{joined-long}
 use Rattle.assembly_writer.proofs.Rows.{commit-row-places}
 use Rattle.assembly_writer.proofs.Bounds.{parts-small}
 use Rattle.assembly_writer.proofs.Leads.{leads-count, leaders-bytes, stamps-bytes, commit-bytes}
 use Rattle.assembly_writer.proofs.Whole.{log-bytes, laid, laid-parts}
-
--- ---- the votes' table
-
-ends-long : (form : Form) (rs : List Run) → length (flatMap (voteEnd form) rs) ≡ voteTail (form .termBytes) * length rs
-unfolding flatMap
-ends-long form [] = sym (mul-zero (voteTail (form .termBytes)))
-ends-long form (r ∷ rs) =
-    length-append (voteEnd form r) (flatMap (voteEnd form) rs)
-    ∙ rw (vote-end-size form r, ends-long form rs, mul-suc) (add-comm (voteTail (form .termBytes)) _)
-
-table-long : (form : Form) → length (form .cluster) ≡ nameSize → (rs : List Run) (votes : List ℕ) → VotesIn form 1 rs votes
-    → voteHead + voteTail (form .termBytes) * length rs ≤ length votes
-unfolding VotesIn votesWanted
-table-long form named rs votes h =
-    let head = (form .firstKind + 2) ∷ form .cluster ++ be 2 1 in
-    let all = head ++ flatMap (voteEnd form) rs in
-    omega (
-      arith,
-      rw length-take at (ap length h),
-      length-append head (flatMap (voteEnd form) rs),
-      vote-head-size form named 1,
-      ends-long form rs,
-    )
 
 -- ---- the sizes as they are
 
@@ -90,7 +67,7 @@ module _ {roster log itemBytes votes : List ℕ} {p : Plan} {taken : List ℕ} (
   named = length-take-le nameSize roster (plan .name)
 
   pub votes-room : voteHead + voteTail (p .width) * p .leaders ≤ length votes
-  votes-room = rw (plan .leaders) (table-long form named terms votes (plan .tabled))
+  votes-room = rw (plan .leaders) (votes-long form named terms votes 1 (plan .tabled))
 
   pub index-small : getD taken (takenSize * p .leaders) 0 < 4294967296
   index-small = omega (arith, plan .index, plan .records)
@@ -131,7 +108,7 @@ module _ {roster log itemBytes votes : List ℕ} {p : Plan} {taken : List ℕ} (
 
     -- ---- how many bytes
 
-    fields-long : (fields : List ℕ) → length (trailerPart name fields) ≡ nameSize + 4 * fieldCount
+    fields-long : (fields : List ℕ) → length (trailerPart name fields) ≡ trailerSize
     unfolding trailerPart
     fields-long fields =
         length-append name (fieldsPart fields)
@@ -139,7 +116,7 @@ module _ {roster log itemBytes votes : List ℕ} {p : Plan} {taken : List ℕ} (
 
     pub written-long : length log
         + (length (leadersPart itemBytes p votes taken) + length (stampsPart itemBytes p taken))
-        + length (commitPart (p .size) itemBytes (p .replicas) (drop (takenSize * p .leaders) taken)) + nameSize + 4 * fieldCount
+        + length (commitPart (p .size) itemBytes (p .replicas) (drop (takenSize * p .leaders) taken)) + trailerSize
         ≡ length (bytesTaken roster log itemBytes p taken)
     unfolding certifiedPart
     written-long =
@@ -172,7 +149,7 @@ module _ {roster log itemBytes votes : List ℕ} {p : Plan} {taken : List ℕ} (
       log-room = omega (arith, begins-room, length-append log certified)
 
       pub log-begun : {out : List ℕ} → out ≡ sets e 0 log → Begun log certified e out (length log)
-      log-begun o = record { room = begins-room; put = o ∙ over-first e log log-room; here = refl }
+      log-begun o = begun-first begins-room o refl
 
       module _ {s : Sizes} (sizes : SizesOf itemBytes p votes taken s) where
         pub parts-end : length log + (s .leaders + (s .stamps + s .commit)) ≡ length (log ++ certified)

@@ -19,6 +19,7 @@ ghost use Rattle.assembly_writer.specs.Written.{Planned, bytesTaken};
 use assembly_copies::PLACES_AT;
 use assembly_copies::STAMP_AT;
 use assembly_copies::TAKEN_SIZE;
+use submission_trailer::TRAILER_SIZE;
 use submission_trailer::VERSION;
 
 // The numbers of a trailer after the name: H, L, the four distances, version 1, of 4 bytes each.
@@ -111,14 +112,6 @@ fn put_certificate(out: &mut [u8], items: &[u8], end: &[u8], row: &[usize], plan
     at + put_signed(rest, items, plan.size, plan.replicas, &row[PLACES_AT..])
 }
 
-// The bytes of the end of a vote, from its term on.
-fn vote_tail(width: usize) -> usize
-    requires { ⌜ width ≤ widthMost ⌝ }
-    ensures { λ r. ⌜ (r ≡ voteTail width) × (r ≤ voteTail widthMost) ⌝ }
-{
-    submission::ballot_size(width) - submission::TERM_AT
-}
-
 // Writes the leader certificates, a row and the end of a vote for each, and gives the number of their bytes.
 fn put_leaders(out: &mut [u8], items: &[u8], votes: &[u8], plan: Plan, taken: &[usize]) -> usize
     requires { ⌜ RowsInside (now items) plan (now taken)
@@ -131,7 +124,7 @@ fn put_leaders(out: &mut [u8], items: &[u8], votes: &[u8], plan: Plan, taken: &[
         (now (out .entry)) ⌝ }
 {
     let leaders = plan.leaders;
-    let tail = vote_tail(plan.width);
+    let tail = assembly_terms::vote_tail(plan.width);
     let mut at = 0;
     let mut t = 0;
     while t < leaders {
@@ -349,26 +342,21 @@ fn leads_size(plan: Plan, taken: &[usize]) -> usize
     at
 }
 
-// The bytes of what is to be written.
-pub fn written_size(
-    roster: &[u8],
-    log: &[u8],
-    items: &[u8],
-    votes: &[u8],
-    plan: Plan,
-    taken: &[usize],
-) -> usize
-    requires { ⌜ Planned (now roster) (now log) (now items) (now votes) plan (now taken) ⌝ }
-    ensures { λ r. ⌜ r ≡ length (bytesTaken (now (roster .entry)) (now (log .entry)) (now (items .entry)) plan
-        (now (taken .entry))) ⌝ }
+// The bytes of what is to be written, from the rows.
+pub fn written_size(log: &[u8], plan: Plan, taken: &[usize]) -> usize
+    requires { ⌜ (plan .width ≤ widthMost) × (plan .size ≤ signatureMost) × (plan .replicas ≤ replicasMost)
+        × (plan .leaders ≤ leaderMost) × (takenSize * (plan .leaders + 1) ≤ length (now taken)) ⌝ }
+    ensures { λ r. ⌜ ((roster items votes : List ℕ)
+        → Planned roster (now (log .entry)) items votes plan (now (taken .entry))
+        → r ≡ length (bytesTaken roster (now (log .entry)) items plan (now (taken .entry)))) ⌝ }
 {
     let row = TAKEN_SIZE * plan.leaders;
     let leads = leads_size(plan, taken);
     let commit = commit_size(&taken[row..], plan);
-    log.len() + leads + commit + roster::NAME_SIZE + FIELD_COUNT * FIELD_SIZE
+    log.len() + leads + commit + TRAILER_SIZE
 }
 
-// Writes it, and gives the number of its bytes.
+// Writes the submission that the rows stand for, and gives the number of its bytes.
 pub fn write(
     out: &mut [u8],
     roster: &[u8],

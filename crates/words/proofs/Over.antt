@@ -58,6 +58,43 @@ over-next W e vs k h room =
     let size : k + length vs ≡ length (W ++ vs) = sym (length-append W vs ∙ ap (λ (n : ℕ). n + length vs) h) in
     ap (λ (n : ℕ). sets (W ++ drop n e) k vs) h ∙ sets-next W e vs k (k + length vs) h refl room ∙ ap (λ (n : ℕ). W ++ vs ++ drop n e) size
 
+-- stores from the start on
+pub over-first : (e vs : List ℕ) → length vs ≤ length e → sets e 0 vs ≡ over vs e
+unfolding over
+over-first e vs h = over-next [] e vs 0 refl (omega arith)
+
+-- ---- a buffer that begins with some bytes, and whose rest is lent on to a writer of others
+
+-- W was written to the start of e, and up to `at`; there is room for B
+pub record Begun (W B e out : List ℕ) (at : ℕ) : Type 0 where
+  pub room : length (W ++ B) ≤ length e
+  pub put : out ≡ over W e
+  pub here : at ≡ length W
+
+-- by stores
+pub begun-first : {W B e out : List ℕ} {at : ℕ} → length (W ++ B) ≤ length e → out ≡ sets e 0 W → at ≡ length W → Begun W B e out at
+begun-first {W = W} {B = B} {e = e} room put here =
+    record { room = room; put = put ∙ over-first e W (omega (arith, length-append W B)); here = here }
+
+module _ {W B e out : List ℕ} {at : ℕ} (b : Begun W B e out at) where
+  both : length (W ++ B) ≡ length W + length B
+  both = length-append W B
+
+  pub begun-long : length out ≡ length e
+  begun-long = ap length (b .put) ∙ over-length W e (omega (arith, both))
+
+  pub rest-inside : at + length B ≤ length out
+  rest-inside = omega (arith, both, begun-long)
+
+  pub rest-room : length B ≤ length (take (length out - at) (drop at out))
+  rest-room = rw (part-end out at, length-drop) (omega (arith, rest-inside))
+
+  pub rest-put : {size : ℕ} {last : List ℕ} → size ≡ length B → last ≡ over B (take (length out - at) (drop at out))
+      → (at + size ≡ length (W ++ B)) × (putMid at (length out - at) out last ≡ over (W ++ B) e)
+  rest-put s l = (omega (arith, both), rw (l, b .put) (lent-on W e B at (sym (b .here)) (omega (arith, both))))
+
+-- ---- what was written, by the number that its writer gave
+
 -- what a writer leaves of a buffer begins with what it wrote, read up to the number that it gave
 module _ (B e out : List ℕ) (end : ℕ) (size : end ≡ length B) (bytes : out ≡ over B e) where
   pub written : take end out ≡ B

@@ -23,7 +23,8 @@ put-u16-requires c κs =
 
 find-copies-requires : tie.Need-find-copies-requires
 find-copies-requires c κs =
-    let put = c .before .before .before .before in
+    let tail = c .before .before .vote-tail .ensures .0 in
+    let put = c .before .before .before .before .before in
     let start = put .before .before .before .before .before .before in
     let a = start .args in
     let p = start .pre .0 in
@@ -34,14 +35,14 @@ find-copies-requires c κs =
       width = w;
       size = p .size;
       items = p .items;
-      short = omega arith;
-      inside = rw kept (fewer-terms-inside voteHead (voteTail (a .terms .width)) (a .terms .count) (length (a .votes .now)) (p .count) (start .pre .1));
+      short = omega (arith, tail);
+      inside = rw (kept, tail) (fewer-terms-inside voteHead (voteTail (a .terms .width)) (a .terms .count) (length (a .votes .now)) (p .count) (start .pre .1));
       cells = start .pre .3;
     }
 
 same-length : tie.Need-same-length
 same-length c =
-    let put = c .before .before .before .before .before .before .before in
+    let put = c .before .before .before .before .before .before .before .before in
     let a = put .before .before .before .before .before .before .args in
     ap length (put .put-u16 .ensures) ∙ length-sets (a .votes .now) 17 (be 2 (a .candidate))
 
@@ -51,13 +52,14 @@ same-length-2 c = c .before .before .find-copies .ensures .1 .1
 returns : tie.Need-returns
 returns c =
     let found = c .before .before .find-copies in
-    let put = c .before .before .before .before .before .before .before in
+    let put = c .before .before .before .before .before .before .before .before in
     let start = put .before .before .before .before .before .before in
     let a = start .args in
-    let kept = ap length (put .put-u16 .ensures) ∙ length-sets (a .votes .now) 17 (be 2 (a .candidate)) in (
+    let kept = ap length (put .put-u16 .ensures) ∙ length-sets (a .votes .now) 17 (be 2 (a .candidate)) in
+    let copies = rw (c .before .before .before .before .before .vote-tail .ensures .0) at (found .ensures .0) in (
       λ rs last all wanted.
           let named = votes-for (a .roster .now) (a .items .now) (a .terms) (start .pre .0 .fine) rs all last (a .candidate) (a .votes .now) _ (put .put-u16 .ensures) wanted in
-          (named, votes-placed (a .roster .now) (a .items .now) (a .terms) (start .pre .0 .fine) rs all (a .candidate) (put .put-u16 .last .0) _ (found .ensures .0) named),
+          (named, votes-placed (a .roster .now) (a .items .now) (a .terms) (start .pre .0 .fine) rs all (a .candidate) (put .put-u16 .last .0) _ copies named),
       (found .ensures .1 .0, (kept, found .ensures .1 .1)),
     )
 
@@ -67,9 +69,7 @@ find-votes-spec =
     (tie.spec
     cast-put-u16
     put-u16-requires
-    (λ c. search needs)
-    (λ c. search needs)
-    (λ c. search needs)
+    (λ c κs. search needs)
     find-copies-requires
     same-length
     same-length-2

@@ -42,51 +42,53 @@ div-if1 c = rw (c .record-size .ensures .0) (omega (arith, some-bytes 4))
 
 written-size-requires : tie.Need-written-size-requires
 written-size-requires c κs =
-    let sized = c .before .before in
+    let sized = c .before in
     let told = sized .before .before .before .before in
     let take = told .before .before .before .before .before in
     let start = take .before .before .before .before .before .before .before .before in
     let a = start .args in
     let plan = plan-given (a .roster .now) (a .log .now) _ _ _ _ (sized .before .before .signature-size .ensures .0) (sized .before .replicas .ensures .0) (sized .record-size .ensures .0) in
-    plan-held (a .roster .now) (a .log .now) (a .items .now) (a .output .now) (start .pre) _ _ _ (take .take-rows .ensures) _ _ (told .leaders .given .1) plan
+    let rows = plan-held (a .roster .now) (a .log .now) (a .items .now) (a .output .now) (start .pre) _ _ _ (take .take-rows .ensures) _ _ (told .leaders .given .1) plan .held in
+    (rows .width, rows .size, rows .replicas, rows .few, rows .long)
 
 returns-2 : tie.Need-returns-2
 returns-2 c =
     let asked = c .before in
-    let sized = asked .before .before .before .before in
+    let sized = asked .before .before .before in
     let told = sized .before .before .before .before in
     let take = told .before .before .before .before .before in
     let start = take .before .before .before .before .before .before .before .before in
     let a = start .args in
     let plan = plan-given (a .roster .now) (a .log .now) _ _ _ _ (sized .before .before .signature-size .ensures .0) (sized .before .replicas .ensures .0) (sized .record-size .ensures .0) in
+    let held = plan-held (a .roster .now) (a .log .now) (a .items .now) (a .output .now) (start .pre) _ _ _ (take .take-rows .ensures) _ _ (told .leaders .given .1) plan in
     short-answers (a .roster .now) (a .log .now) (a .items .now) (a .output .now) (start .pre) _ _ _ (take .take-rows .ensures) _ _ (told .leaders .given .1) plan
-    (asked .before .written-size .ensures) (asked .if1 .taken) (c .refused2 .ensures)
+    (asked .before .written-size .ensures _ _ _ held) (asked .if1 .taken) (c .refused2 .ensures)
 
 write-requires : tie.Need-write-requires
 write-requires c κs =
     let asked = c .before .before .before in
-    let sized = asked .before .before .before .before in
+    let sized = asked .before .before .before in
     let told = sized .before .before .before .before in
     let take = told .before .before .before .before .before in
     let start = take .before .before .before .before .before .before .before .before in
     let a = start .args in
-    let plan = plan-given (a .roster .now) (a .log .now) _ _ _ _ (sized .before .before .signature-size .ensures .0) (sized .before .replicas .ensures .0) (sized .record-size .ensures .0) in (
-      plan-held (a .roster .now) (a .log .now) (a .items .now) (a .output .now) (start .pre) _ _ _ (take .take-rows .ensures) _ _ (told .leaders .given .1) plan,
-      omega (arith, asked .before .written-size .ensures, asked .if1 .left),
-    )
+    let plan = plan-given (a .roster .now) (a .log .now) _ _ _ _ (sized .before .before .signature-size .ensures .0) (sized .before .replicas .ensures .0) (sized .record-size .ensures .0) in
+    let held = plan-held (a .roster .now) (a .log .now) (a .items .now) (a .output .now) (start .pre) _ _ _ (take .take-rows .ensures) _ _ (told .leaders .given .1) plan in
+    (held, omega (arith, asked .before .written-size .ensures _ _ _ held, asked .if1 .left))
 
 returns-3 : tie.Need-returns-3
 returns-3 c =
     let write = c .before .before in
     let asked = write .before .before .before .before in
-    let sized = asked .before .before .before .before in
+    let sized = asked .before .before .before in
     let told = sized .before .before .before .before in
     let take = told .before .before .before .before .before in
     let start = take .before .before .before .before .before .before .before .before in
     let a = start .args in
     let plan = plan-given (a .roster .now) (a .log .now) _ _ _ _ (sized .before .before .signature-size .ensures .0) (sized .before .replicas .ensures .0) (sized .record-size .ensures .0) in
+    let held = plan-held (a .roster .now) (a .log .now) (a .items .now) (a .output .now) (start .pre) _ _ _ (take .take-rows .ensures) _ _ (told .leaders .given .1) plan in
     written-answers (a .roster .now) (a .log .now) (a .items .now) (a .output .now) (start .pre) _ _ _ (take .take-rows .ensures) _ _ (told .leaders .given .1) plan
-    (asked .before .written-size .ensures) (omega (arith, asked .if1 .left)) (write .write .ensures .0) (write .write .ensures .1)
+    (asked .before .written-size .ensures _ _ _ held) (omega (arith, asked .if1 .left)) (write .write .ensures .0) (write .write .ensures .1)
 
 pub assemble-checked-spec : {M : Type 1} → statement M
 assemble-checked-spec =
@@ -104,7 +106,6 @@ assemble-checked-spec =
     replicas-requires
     (λ c κs. search needs)
     div-if1
-    (λ c. search needs)
     (λ c. search needs)
     written-size-requires
     (λ c κs. tt)

@@ -1,6 +1,5 @@
 -- Term, index and pointer, one behind the other.
 -- Assumes nothing.
-use mathlib.Core.Path.{refl}
 use Prim.Native.Nat.{_+_}
 use native.Mathlib.Omega.{arith}
 use Rattle.words.specs.BigEndian.{be}
@@ -14,7 +13,7 @@ use Rattle.assembly_terms.proofs.put_place.Tie as tie
 
 returns : tie.Need-returns
 returns c =
-    let value = c .before .before in
+    let value = c .before .before .before in
     let index = value .before .before .before .before in
     let term = index .before .before .before .before in
     let start = term .before .before .before in
@@ -22,7 +21,7 @@ returns c =
     let parts =
     three-put (a .out .now) (be (a .width) (a .term)) (be 4 (a .index)) (bytesOf (a .pointer)) (a .width) (a .width + 4) (length-be (a .width) (a .term))
     (rw (length-be 4 (a .index))) (omega (arith, start .pre .1, length-bytes (a .pointer))) in
-    (refl, rw (value .put-value .ensures, index .put-u32 .ensures, term .put-number .ensures) parts)
+    (c .stamp-tail .ensures .0, rw (value .put-value .ensures, index .put-u32 .ensures, term .put-number .ensures) parts)
 
 pub put-place-spec : {M : Type 1} → statement M
 put-place-spec =
@@ -32,7 +31,6 @@ put-place-spec =
     (λ c κs. search needs)
     (λ c. search needs)
     (λ c κs. search needs)
-    (λ c. search needs)
-    (λ c. search needs)
+    (λ c κs. search needs)
     (λ c. search needs)
     returns)

@@ -4,7 +4,7 @@ use native.Mathlib.Omega.{arith}
 use borrow.Author.Needs.{needs}
 use Rattle.words.proofs.Laws.{part-end}
 use Rattle.submission.specs.Reading.{ballotSize}
-use Rattle.assembly_writer.proofs.Lengths.{certificate-long}
+use Rattle.assembly_writer.proofs.Heads.{certificate-long}
 use Rattle.assembly_writer.proofs.lead_size.Statement.{statement}
 use Rattle.assembly_writer.proofs.lead_size.Tie as tie
 

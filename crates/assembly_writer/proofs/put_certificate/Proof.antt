@@ -1,10 +1,10 @@
--- The candidate and the end of his vote at the start, and signers and signatures into the rest.
+-- The candidate and the end of the vote at the start, and signers and signatures into the rest.
 -- Assumes nothing.
 use native.Mathlib.Omega.{arith}
 use borrow.Author.Needs.{needs}
 use Rattle.words.proofs.Laws.{part-end}
 use Rattle.assembly_writer.specs.Parts.{certificateIn}
-use Rattle.assembly_writer.proofs.Lent.{begun-long, rest-inside, rest-room, rest-put}
+use Rattle.words.proofs.Over.{begun-long, rest-inside, rest-room, rest-put}
 use Rattle.assembly_writer.proofs.Heads.{certificate-head, certificate-begun}
 use Rattle.assembly_writer.proofs.put_certificate.Statement.{statement}
 use Rattle.assembly_writer.proofs.put_certificate.Tie as tie

@@ -6,7 +6,7 @@ use borrow.Author.Needs.{needs}
 use Rattle.words.proofs.Laws.{part-end}
 use Rattle.assembly_copies.specs.Rows.{takenSize}
 use Rattle.assembly_writer.specs.Parts.{certifiedPart}
-use Rattle.assembly_writer.proofs.Lent.{begun-long, rest-inside, rest-room, rest-put}
+use Rattle.words.proofs.Over.{begun-long, rest-inside, rest-room, rest-put}
 use Rattle.assembly_writer.proofs.Rows.{commit-row-long, commit-row-first, commit-row-places}
 use Rattle.assembly_writer.proofs.Certified.{leaders-room, leaders-begun, stamps-begun}
 use Rattle.assembly_writer.proofs.put_certified.Statement.{statement}

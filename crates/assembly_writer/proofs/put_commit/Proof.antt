@@ -6,7 +6,7 @@ use borrow.Author.Needs.{needs}
 use lib.ListN.{length}
 use Rattle.words.specs.Over.{over}
 use Rattle.words.proofs.Laws.{part-end}
-use Rattle.assembly_writer.proofs.Lent.{begun-long, rest-inside, rest-room, rest-put}
+use Rattle.words.proofs.Over.{begun-long, rest-inside, rest-room, rest-put}
 use Rattle.assembly_writer.proofs.Heads.{commit-none, commit-some, commit-head, commit-begun}
 use Rattle.assembly_writer.proofs.put_commit.Statement.{statement}
 use Rattle.assembly_writer.proofs.put_commit.Tie as tie

@@ -4,7 +4,7 @@ use mathlib.Core.Path.{ap, _∙_}
 use native.Mathlib.Omega.{arith}
 use borrow.Author.Needs.{needs}
 use lib.Seq.{sets}
-use Rattle.assembly_writer.proofs.Lent.{over-first}
+use Rattle.words.proofs.Over.{over-first}
 use Rattle.assembly_writer.proofs.Signatures.{none-put, signature-part, signature-long}
 use Rattle.assembly_writer.proofs.put_signature.Statement.{statement}
 use Rattle.assembly_writer.proofs.put_signature.Tie as tie

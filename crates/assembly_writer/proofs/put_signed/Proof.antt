@@ -12,7 +12,7 @@ use Rattle.words.proofs.Laws.{length-be}
 use Rattle.submission_encoding.specs.Copies.{signersOf}
 use Rattle.assembly_copies.specs.Rows.{copiesAt}
 use Rattle.assembly_writer.specs.Parts.{signaturesAt, signedAt}
-use Rattle.assembly_writer.proofs.Lent.{over-first, Begun, begun-long, rest-inside, rest-room, rest-put}
+use Rattle.words.proofs.Over.{Begun, begun-first, begun-long, rest-inside, rest-room, rest-put}
 use Rattle.assembly_writer.proofs.put_signed.Statement.{statement}
 use Rattle.assembly_writer.proofs.put_signed.Tie as tie
 
@@ -26,12 +26,7 @@ module _ (S : ℕ) (itemBytes : List ℕ) (n : ℕ) (places e : List ℕ) (room 
 
   begun : {m : ℕ} {out : List ℕ} → m ≡ mask → out ≡ sets e 0 (be 2 m) → Begun (be 2 mask) (signaturesAt S itemBytes n places) e out 2
   unfolding signedAt
-  begun h p =
-      record {
-        room = room;
-        put = p ∙ ap (λ (k : ℕ). sets e 0 (be 2 k)) h ∙ over-first e _ (omega (arith, head-room, length-be 2 mask));
-        here = sym (length-be 2 mask);
-      }
+  begun h p = begun-first room (p ∙ ap (λ (k : ℕ). sets e 0 (be 2 k)) h) (sym (length-be 2 mask))
 
 put-u16-requires : tie.Need-put-u16-requires
 put-u16-requires c κs =

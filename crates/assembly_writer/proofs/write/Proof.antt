@@ -7,7 +7,7 @@ use lib.ListN.{length}
 use Rattle.words.specs.Over.{over}
 use Rattle.words.proofs.Laws.{bytes-each}
 use Rattle.roster.specs.Roster.{cluster}
-use Rattle.assembly_writer.proofs.Lent.{begun-long, rest-inside, rest-room, rest-put}
+use Rattle.words.proofs.Over.{begun-long, rest-inside, rest-room, rest-put}
 use Rattle.assembly_writer.proofs.Planned.{votes-room, index-small, bytes-parts, log-room, log-begun, sizes-small, certified-put}
 use Rattle.assembly_writer.proofs.write.Statement.{statement}
 use Rattle.assembly_writer.proofs.write.Tie as tie

@@ -12,16 +12,16 @@ use Rattle.assembly_writer.proofs.written_size.Tie as tie
 
 returns : tie.Need-returns
 returns c =
-    let start = c .before .before .before .before .before .before .before .before .before in
+    let start = c .before .before .before .before .before .before in
     let a = start .args in
-    let plan = start .pre in
-    let known = bytes-each (a .log .now) (λ j. c .before .before .before .before .before .before .before .shared-slice-known2 .given j .fits) in
+    let known = bytes-each (a .log .now) (λ j. c .before .before .before .before .before .shared-slice-known .given j .fits) in
     let commit = rw (part-end (a .taken .now) (takenSize * a .plan .leaders)) at (c .commit-size .ensures .0) in
+    λ roster itemBytes votes plan.
     omega (
       arith,
       written-long plan known,
-      c .before .before .leads-size .ensures .0 (a .items .now) (a .votes .now) (plan .held) (votes-room plan),
-      commit (a .items .now) (commit-row-places (plan .held)),
+      c .before .before .leads-size .ensures .0 itemBytes votes (plan .held) (votes-room plan),
+      commit itemBytes (commit-row-places (plan .held)),
     )
 
 pub written-size-spec : {M : Type 1} → statement M
@@ -35,8 +35,6 @@ written-size-spec =
     (λ c. search needs)
     (λ c. search needs)
     (λ c κs. search needs)
-    (λ c. search needs)
-    (λ c. search needs)
     (λ c. search needs)
     (λ c. search needs)
     (λ c. search needs)
