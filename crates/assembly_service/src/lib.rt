@@ -154,7 +154,7 @@ fn assemble_checked(roster: &[u8], log: &[u8], items: &[u8], output: &mut [u8]) 
         records: log.len() / log_chain::record_size(TERM_SIZE),
         leaders: leaders,
     };
-    if output.len() < assembly_writer::written_size(log, plan, &taken) {
+    if output.len() < assembly_writer::sizes::written_size(log, plan, &taken) {
         return written::refused(21);
     }
     let length = assembly_writer::write(output, roster, log, items, &votes, plan, &taken);

@@ -49,7 +49,7 @@ pub record Filled (head n : ℕ) (f : Run → List ℕ) (done : List Run) (entry
   pub added : EndsAdded head f done entry table
 
 module _ (head n : ℕ) (f : Run → List ℕ) where
-  pub filled-none : (entry : List ℕ) → head + n * leaderMost ≤ length entry → Filled head n f [] entry entry head
+  filled-none : (entry : List ℕ) → head + n * leaderMost ≤ length entry → Filled head n f [] entry entry head
   unfolding EndsAdded flatMap
   filled-none entry room =
       let first = length-take-le head entry (omega arith) in
@@ -63,7 +63,7 @@ module _ (head n : ℕ) (f : Run → List ℕ) where
 
   module _ (each : (x : Run) → length (f x) ≡ n) (done : List Run) (entry table : List ℕ) (at : ℕ) (filled : Filled head n f done entry table at)
       (few : length done < leaderMost) where
-    pub filled-room : at + n ≤ length table
+    filled-room : at + n ≤ length table
     filled-room =
         let more : n * length done + n ≤ n * leaderMost = rw (← mul-suc) (mul-le-mul-left n few) in
         omega (arith, more, filled .next, filled .room)

@@ -24,7 +24,7 @@ module _ {A : Type 0} (f : A → List ℕ) (n : ℕ) (each : (x : A) → length 
   rows-length [] = sym (mul-zero n)
   rows-length (x ∷ xs) = length-append (f x) (flatMap f xs) ∙ rw (each x, rows-length xs, mul-suc) (add-comm n (n * length xs))
 
-  pub row-at : (xs : List A) (m : ℕ) (d : A) → m < length xs → take n (drop (n * m) (flatMap f xs)) ≡ f (getD xs m d)
+  row-at : (xs : List A) (m : ℕ) (d : A) → m < length xs → take n (drop (n * m) (flatMap f xs)) ≡ f (getD xs m d)
   unfolding flatMap
   row-at [] m d h = absurd (omega arith)
   row-at (x ∷ xs) zero d h = rw mul-zero (take-at (f x) (flatMap f xs) n (each x))
@@ -62,7 +62,7 @@ module _ (b t : List ℕ) (h : take (length b) t ≡ b) where
   begins-room = omega (arith, rw length-take at (ap length h))
 
   -- a part of the bytes
-  pub begins-part : (i n : ℕ) → i + n ≤ length b → take n (drop i t) ≡ take n (drop i b)
+  begins-part : (i n : ℕ) → i + n ≤ length b → take n (drop i t) ≡ take n (drop i b)
   begins-part i n room =
       ap (λ (l : List ℕ). take n (drop i l)) (sym begins) ∙ ap (take n) (drop-append-le i b _ (omega arith))
       ∙ take-append-le n (drop i b) _ (rw length-drop (omega arith))

@@ -45,10 +45,10 @@ module _ (form : Form) where
   -- ---- the tables, for a name of 16 bytes
 
   module _ (named : length (form .cluster) ≡ nameSize) where
-    pub vote-head-size : (c : ℕ) → length ((form .firstKind + 2) ∷ form .cluster ++ be 2 c) ≡ voteHead
+    vote-head-size : (c : ℕ) → length ((form .firstKind + 2) ∷ form .cluster ++ be 2 c) ≡ voteHead
     vote-head-size c = rw (length-append, length-be) (omega arith)
 
-    pub stamp-head-size : length (form .firstKind ∷ form .cluster) ≡ stampHead
+    stamp-head-size : length (form .firstKind ∷ form .cluster) ≡ stampHead
     stamp-head-size = omega arith
 
     module _ (rs : List Run) (t : List ℕ) where
@@ -89,7 +89,7 @@ module _ (form : Form) where
         unfolding VotesIn votesWanted
         vote-end c h = table-row ((form .firstKind + 2) ∷ form .cluster ++ be 2 c) (voteEnd form) (voteTail (form .termBytes)) vote-end-size rs t h voteHead m (run [] []) (vote-head-size c) inside
 
-        pub stamp-end : StampsIn form rs t
+        stamp-end : StampsIn form rs t
             → take (stampTail (form .termBytes)) (drop (stampHead + stampTail (form .termBytes) * m) t) ≡ stampEnd form (getD rs m (run [] []))
         unfolding StampsIn stampsWanted
         stamp-end h = table-row (form .firstKind ∷ form .cluster) (stampEnd form) (stampTail (form .termBytes)) stamp-end-size rs t h stampHead m (run [] []) stamp-head-size inside

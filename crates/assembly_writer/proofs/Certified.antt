@@ -6,10 +6,10 @@ use Prim.Native.Nat.{ℕ, _*_, _≤_}
 use native.Mathlib.Omega.{arith}
 use lib.ListN.{length, drop, length-append}
 use Rattle.words.specs.Over.{over}
+use Rattle.words.proofs.Over.{Begun}
 use Rattle.assembly_copies.specs.Rows.{takenSize}
 use Rattle.assembly_writer.specs.declared.Plan.{Plan}
 use Rattle.assembly_writer.specs.Parts.{leadersPart, stampsPart, commitPart, certifiedPart}
-use Rattle.words.proofs.Over.{Begun}
 
 module _ (itemBytes votes taken e : List ℕ) (p : Plan) (room : length (certifiedPart itemBytes p votes taken) ≤ length e) where
   abbrev two : List ℕ

@@ -10,8 +10,8 @@ use lib.Seq.{sets}
 use Rattle.words.specs.BigEndian.{be}
 use Rattle.words.specs.Over.{over}
 use Rattle.words.proofs.Laws.{length-be}
-use Rattle.assembly_writer.specs.Parts.{signedAt, certificateIn, commitPart, fieldsPart, trailerPart}
 use Rattle.words.proofs.Over.{over-nothing, over-next, over-first, Begun, begun-first}
+use Rattle.assembly_writer.specs.Parts.{signedAt, certificateIn, commitPart, fieldsPart, trailerPart}
 
 pub certificate-long : (S : ℕ) (itemBytes : List ℕ) (n : ℕ) (end row : List ℕ)
     → length (certificateIn S itemBytes n end row) ≡ 2 + length end + length (signedAt S itemBytes n (drop 2 row))
@@ -25,7 +25,7 @@ certificate-long S itemBytes n end row =
     )
 
 -- a number of so many bytes at the start
-pub number-first : (w x : ℕ) (e : List ℕ) → w ≤ length e → sets e 0 (be w x) ≡ over (be w x) e
+number-first : (w x : ℕ) (e : List ℕ) → w ≤ length e → sets e 0 (be w x) ≡ over (be w x) e
 number-first w x e h = over-first e (be w x) (omega (arith, length-be w x))
 
 module _ (S : ℕ) (itemBytes : List ℕ) (n : ℕ) (end row e : List ℕ) (room : length (certificateIn S itemBytes n end row) ≤ length e) where

@@ -13,10 +13,9 @@ use borrow.Rule.Slice.PartMut.{putMid}
 use lib.Dec.{ltb}
 use lib.ListN.{length, getD, take, drop, length-append}
 use Rattle.words.specs.Over.{over}
-use Rattle.words.proofs.Over.{over-length, over-nothing}
+use Rattle.words.proofs.Over.{over-length, over-nothing, Begun, rest-inside, rest-room, rest-put}
 use Rattle.refusal.proofs.Laws.{look}
 use Rattle.assembly_writer.specs.Parts.{joined}
-use Rattle.words.proofs.Over.{Begun, rest-inside, rest-room, rest-put}
 
 module _ (part : ℕ → List ℕ) where
   pub joined-next : (i : ℕ) → joined part (i + 1) ≡ joined part i ++ part i
@@ -24,7 +23,7 @@ module _ (part : ℕ → List ℕ) where
   joined-next i = rw add-one refl
 
   -- fewer parts are no longer
-  pub joined-inside : (i count : ℕ) → i < count → length (joined part i) + length (part i) ≤ length (joined part count)
+  joined-inside : (i count : ℕ) → i < count → length (joined part i) + length (part i) ≤ length (joined part count)
   unfolding joined
   joined-inside i zero h = absurd (omega arith)
   joined-inside i (suc count) h =

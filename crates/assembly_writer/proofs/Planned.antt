@@ -11,6 +11,7 @@ use Rattle.words.specs.BigEndian.{be}
 use Rattle.words.specs.Over.{over}
 use Rattle.words.proofs.Bytes.{Bytes}
 use Rattle.words.proofs.Laws.{length-be}
+use Rattle.words.proofs.Over.{Begun, begun-first, rest-put}
 use Rattle.roster.specs.Roster.{nameSize, cluster}
 use Rattle.log_chain.specs.Log.{Form, withTerms}
 use Rattle.log_chain.specs.Records.{recordsOf}
@@ -23,10 +24,9 @@ use Rattle.assembly_copies.specs.Rows.{takenSize, leadsIn}
 use Rattle.assembly_terms.specs.Wanted.{voteHead, voteTail}
 use Rattle.assembly_terms.proofs.Wanted.{votes-long}
 use Rattle.assembly_writer.specs.declared.Plan.{Plan}
-use Rattle.assembly_writer.specs.declared.Sizes.{Sizes}
+use Rattle.assembly_writer.specs.declared.PartSizes.{PartSizes}
 use Rattle.assembly_writer.specs.Parts.{leadersPart, stampsPart, commitPart, certifiedPart, SizesOf, fieldsFor, fieldCount, fieldsPart, trailerPart}
 use Rattle.assembly_writer.specs.Written.{viewTaken, bytesTaken, Planned}
-use Rattle.words.proofs.Over.{Begun, begun-first, rest-put}
 use Rattle.assembly_writer.proofs.Joined.{joined-long}
 use Rattle.assembly_writer.proofs.Rows.{commit-row-places}
 use Rattle.assembly_writer.proofs.Bounds.{parts-small}
@@ -35,7 +35,7 @@ use Rattle.assembly_writer.proofs.Whole.{log-bytes, laid, laid-parts}
 
 -- ---- the sizes as they are
 
-sizes-own : List ℕ → Plan → List ℕ → List ℕ → Sizes
+sizes-own : List ℕ → Plan → List ℕ → List ℕ → PartSizes
 sizes-own itemBytes p votes taken =
     record {
       leaders = length (leadersPart itemBytes p votes taken);
@@ -89,7 +89,7 @@ module _ {roster log itemBytes votes : List ℕ} {p : Plan} {taken : List ℕ} (
         length-map ls (λ (l : Lead). l .certificate) ∙ leads-count (p .size) itemBytes form (p .replicas) taken terms ∙ sym (plan .leaders) in
         (λ i. laid name (one i) (two i) (three i) (four i) (H i) (L i))
 
-    pub bytes-parts : {s : Sizes} → SizesOf itemBytes p votes taken s
+    pub bytes-parts : {s : PartSizes} → SizesOf itemBytes p votes taken s
         → bytesTaken roster log itemBytes p taken ≡ (log ++ certifiedPart itemBytes p votes taken) ++ trailerPart name (fieldsFor p (length log) s)
     unfolding certifiedPart
     bytes-parts sizes =
@@ -151,8 +151,8 @@ module _ {roster log itemBytes votes : List ℕ} {p : Plan} {taken : List ℕ} (
       pub log-begun : {out : List ℕ} → out ≡ sets e 0 log → Begun log certified e out (length log)
       log-begun o = begun-first begins-room o refl
 
-      module _ {s : Sizes} (sizes : SizesOf itemBytes p votes taken s) where
-        pub parts-end : length log + (s .leaders + (s .stamps + s .commit)) ≡ length (log ++ certified)
+      module _ {s : PartSizes} (sizes : SizesOf itemBytes p votes taken s) where
+        parts-end : length log + (s .leaders + (s .stamps + s .commit)) ≡ length (log ++ certified)
         unfolding certifiedPart
         parts-end =
             let two = leadersPart itemBytes p votes taken in

@@ -56,7 +56,7 @@ module _ (S : ℕ) (itemBytes : List ℕ) where
 
   -- ---- their signatures
 
-  pub signatures-joined : (n : ℕ) (places : List ℕ) → n ≤ length places → signaturesOf (copiesAt S itemBytes n places) ≡ signaturesAt S itemBytes n places
+  signatures-joined : (n : ℕ) (places : List ℕ) → n ≤ length places → signaturesOf (copiesAt S itemBytes n places) ≡ signaturesAt S itemBytes n places
   unfolding signaturesOf copiesAt joined signatureAt
   signatures-joined zero places h = refl
   signatures-joined (suc n) [] h = absurd (omega arith)
@@ -71,7 +71,7 @@ module _ (S : ℕ) (itemBytes : List ℕ) where
     copies-long : length (signaturesOf (copiesAt S itemBytes n places)) ≡ S * ones signers
     copies-long = signatures-length S (copiesAt S itemBytes n places) (copies-sized n places (held .inside))
 
-    pub signatures-long : length (signaturesAt S itemBytes n places) ≡ S * ones signers
+    signatures-long : length (signaturesAt S itemBytes n places) ≡ S * ones signers
     signatures-long = sym (ap length (signatures-joined n places (held .long))) ∙ copies-long
 
     pub signed-part : signedBytes S signers (signaturesOf (copiesAt S itemBytes n places)) ≡ signedAt S itemBytes n places

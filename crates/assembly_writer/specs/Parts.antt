@@ -14,7 +14,7 @@ use Rattle.submission_encoding.specs.Copies.{signersOf, signatureOf}
 use Rattle.assembly_copies.specs.Rows.{replicasMost, takenSize, copyAt, copiesAt, Placed, rowAt}
 use Rattle.assembly_terms.specs.Wanted.{voteHead, voteTail}
 use Rattle.assembly_writer.specs.declared.Plan.{Plan}
-use Rattle.assembly_writer.specs.declared.Sizes.{Sizes}
+use Rattle.assembly_writer.specs.declared.PartSizes.{PartSizes}
 
 -- parts 0, 1, .. one after the other, so many
 unfoldable pub joined : (ℕ → List ℕ) → ℕ → List ℕ
@@ -70,7 +70,7 @@ certifiedPart itemBytes p votes taken =
     ++ commitPart (p .size) itemBytes (p .replicas) (drop (takenSize * p .leaders) taken)
 
 -- how many bytes each has
-pub record SizesOf (itemBytes : List ℕ) (p : Plan) (votes taken : List ℕ) (s : Sizes) : Type 0 where
+pub record SizesOf (itemBytes : List ℕ) (p : Plan) (votes taken : List ℕ) (s : PartSizes) : Type 0 where
   pub leaders : s .leaders ≡ length (leadersPart itemBytes p votes taken)
   pub stamps : s .stamps ≡ length (stampsPart itemBytes p taken)
   pub commit : s .commit
@@ -79,7 +79,7 @@ pub record SizesOf (itemBytes : List ℕ) (p : Plan) (votes taken : List ℕ) (s
 -- ---- part 5
 
 -- the numbers of the trailer: H, L, the four distances, version
-abbrev pub fieldsFor : Plan → ℕ → Sizes → List ℕ
+abbrev pub fieldsFor : Plan → ℕ → PartSizes → List ℕ
 fieldsFor p log s =
     p .records ∷ p .leaders ∷ (log + (s .leaders + (s .stamps + s .commit)))
     ∷ (s .leaders + (s .stamps + s .commit)) ∷ (s .stamps + s .commit) ∷ s .commit ∷ 1 ∷ []

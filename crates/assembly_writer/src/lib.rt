@@ -1,31 +1,21 @@
 // The writer of an assembled submission (document 02, W3): parts in order, each into the part of the output
 // that begins where the last one ended.
 ghost use mathlib.Core.Path.{_≡_};
-ghost use mathlib.Core.List.{List};
-ghost use Prim.Native.Nat.{ℕ, _+_, _-_, _*_, _≤_, _<_};
+ghost use Prim.Native.Nat.{_+_, _-_, _*_, _≤_, _<_};
 ghost use lib.ListN.{length, getD, drop};
 ghost use Rattle.words.specs.Over.{over};
-ghost use Rattle.words.specs.Widths.{widthMost};
-ghost use Rattle.roster.specs.Sizes.{signatureMost};
-ghost use Rattle.submission.specs.Validate.{leaderMost};
-ghost use Rattle.assembly_copies.specs.Rows.{replicasMost, takenSize};
+ghost use Rattle.assembly_copies.specs.Rows.{takenSize};
 ghost use Rattle.assembly_terms.specs.Wanted.{voteHead, voteTail};
 ghost use Rattle.assembly_writer.specs.Parts.{signatureAt, signaturesAt, signedAt, certificateIn};
 ghost use Rattle.assembly_writer.specs.Parts.{leadersPart, stampsPart, commitPart, certifiedPart};
-ghost use Rattle.assembly_writer.specs.Parts.{SizesOf, fieldsFor, fieldsPart, trailerPart};
-ghost use Rattle.assembly_writer.specs.Parts.{signedMost, leadMost, commitMost};
-ghost use Rattle.assembly_writer.specs.Parts.{PlacesHeld, RowsInside};
+ghost use Rattle.assembly_writer.specs.Parts.{SizesOf, PlacesHeld, RowsInside};
 ghost use Rattle.assembly_writer.specs.Written.{Planned, bytesTaken};
 use assembly_copies::PLACES_AT;
 use assembly_copies::STAMP_AT;
 use assembly_copies::TAKEN_SIZE;
-use submission_trailer::TRAILER_SIZE;
-use submission_trailer::VERSION;
 
-// The numbers of a trailer after the name: H, L, the four distances, version 1, of 4 bytes each.
-const FIELD_COUNT: usize = 7;
-
-const FIELD_SIZE: usize = 4;
+pub mod sizes;
+mod trailer;
 
 // What is to be written: the widths, and the numbers of replicas, records and leaders.
 pub struct Plan {
@@ -37,7 +27,7 @@ pub struct Plan {
 }
 
 // The bytes of parts 2 to 4: leader certificates, stamps, commit.
-struct Sizes {
+struct PartSizes {
     leaders: usize,
     stamps: usize,
     commit: usize,
@@ -189,7 +179,13 @@ fn put_commit(out: &mut [u8], items: &[u8], row: &[usize], plan: Plan) -> usize
 }
 
 // Writes parts 2 to 4, and gives the number of bytes of each.
-fn put_certified(out: &mut [u8], items: &[u8], votes: &[u8], plan: Plan, taken: &[usize]) -> Sizes
+fn put_certified(
+    out: &mut [u8],
+    items: &[u8],
+    votes: &[u8],
+    plan: Plan,
+    taken: &[usize],
+) -> PartSizes
     requires { ⌜ RowsInside (now items) plan (now taken)
         × (voteHead + voteTail (plan .width) * plan .leaders ≤ length (now votes))
         × (getD (now taken) (takenSize * plan .leaders) 0 < 4294967296)
@@ -206,154 +202,11 @@ fn put_certified(out: &mut [u8], items: &[u8], votes: &[u8], plan: Plan, taken: 
     let at = leaders + stamps;
     let third = &mut out[at..];
     let commit = put_commit(third, items, &taken[row..], plan);
-    Sizes {
+    PartSizes {
         leaders: leaders,
         stamps: stamps,
         commit: commit,
     }
-}
-
-// The numbers of the trailer: H, L, the four distances, from the start of each part to the trailer, version.
-fn trailer_fields(plan: Plan, log: usize, sizes: Sizes) -> [u32; FIELD_COUNT]
-    requires { ⌜ (plan .records < 4294967296) × (plan .leaders < 4294967296)
-        × (log + (sizes .leaders + (sizes .stamps + sizes .commit)) < 4294967296) ⌝ }
-    ensures { λ r. ⌜ r ≡ fieldsFor plan log sizes ⌝ }
-{
-    let fourth = sizes.commit;
-    let third = sizes.stamps + fourth;
-    let second = sizes.leaders + third;
-    let first = log + second;
-    [
-        plan.records as u32,
-        plan.leaders as u32,
-        first as u32,
-        second as u32,
-        third as u32,
-        fourth as u32,
-        VERSION,
-    ]
-}
-
-// Writes numbers of 4 bytes, and gives the number of their bytes.
-fn put_fields(out: &mut [u8], fields: [u32; FIELD_COUNT]) -> usize
-    requires { ⌜ length (fieldsPart fields) ≤ length (now out) ⌝ }
-    ensures size { λ r. ⌜ r ≡ length (fieldsPart fields) ⌝ }
-    ensures bytes { λ _. ⌜ now (out .exit) ≡ over (fieldsPart fields) (now (out .entry)) ⌝ }
-{
-    let mut at = 0;
-    let mut i = 0;
-    while i < FIELD_COUNT {
-        let rest = &mut out[at..];
-        words::put_u32(rest, 0, fields[i]);
-        at += FIELD_SIZE;
-        i += 1;
-    }
-    at
-}
-
-// Writes the trailer: the cluster's name, and numbers; gives the number of its bytes.
-fn put_trailer(out: &mut [u8], name: &[u8], fields: [u32; FIELD_COUNT]) -> usize
-    requires { ⌜ length (trailerPart (now name) fields) ≤ length (now out) ⌝ }
-    ensures size { λ r. ⌜ r ≡ length (trailerPart (now (name .entry)) fields) ⌝ }
-    ensures bytes { λ _. ⌜ now (out .exit)
-        ≡ over (trailerPart (now (name .entry)) fields) (now (out .entry)) ⌝ }
-{
-    let at = name.len();
-    words::put_bytes(out, 0, name);
-    let rest = &mut out[at..];
-    at + put_fields(rest, fields)
-}
-
-// The bytes of the signers of n replicas and of their signatures.
-fn signed_size(size: usize, n: usize, places: &[usize]) -> usize
-    requires { ⌜ (size ≤ signatureMost) × (n ≤ replicasMost) × (n ≤ length (now places)) ⌝ }
-    ensures size { λ r. ⌜ ((items : List ℕ) → PlacesHeld size items n (now (places .entry))
-        → r ≡ length (signedAt size items n (now (places .entry)))) ⌝ }
-    ensures most { λ r. ⌜ r ≤ signedMost ⌝ }
-{
-    let count = u16::count_ones(assembly_copies::masks::mask_of(places, n)) as usize;
-    submission::SIGNERS_SIZE + size * count
-}
-
-// The bytes of the signature at a place: none at place 0.
-fn signature_size(size: usize, place: usize) -> usize
-    requires { ⌜ size ≤ signatureMost ⌝ }
-    ensures size { λ r. ⌜ ((items : List ℕ) → place ≤ length items - size
-        → r ≡ length (signatureAt size items place)) ⌝ }
-    ensures most { λ r. ⌜ r ≤ signatureMost ⌝ }
-{
-    if place == 0 {
-        return 0;
-    }
-    size
-}
-
-// The bytes of the certificate and of the stamp of a row.
-fn lead_size(row: &[usize], plan: Plan) -> usize
-    requires { ⌜ (plan .width ≤ widthMost) × (plan .size ≤ signatureMost) × (plan .replicas ≤ replicasMost)
-        × (takenSize ≤ length (now row)) ⌝ }
-    ensures size { λ r. ⌜ ((items end : List ℕ)
-        → PlacesHeld (plan .size) items (plan .replicas) (drop 2 (now (row .entry)))
-        → getD (now (row .entry)) 1 0 ≤ length items - plan .size → length end ≡ voteTail (plan .width)
-        → r ≡ length (certificateIn (plan .size) items (plan .replicas) end (now (row .entry)))
-        + length (signatureAt (plan .size) items (getD (now (row .entry)) 1 0))) ⌝ }
-    ensures most { λ r. ⌜ r ≤ leadMost ⌝ }
-{
-    let stamp = signature_size(plan.size, row[STAMP_AT]);
-    let signed = signed_size(plan.size, plan.replicas, &row[PLACES_AT..]);
-    submission::ballot_size(plan.width) + signed + stamp
-}
-
-// The bytes of the commit certificate of a row: none with index 0.
-fn commit_size(row: &[usize], plan: Plan) -> usize
-    requires { ⌜ (plan .size ≤ signatureMost) × (plan .replicas ≤ replicasMost)
-        × (takenSize ≤ length (now row)) ⌝ }
-    ensures size { λ r. ⌜ ((items : List ℕ)
-        → PlacesHeld (plan .size) items (plan .replicas) (drop 2 (now (row .entry)))
-        → r ≡ length (commitPart (plan .size) items (plan .replicas) (now (row .entry)))) ⌝ }
-    ensures most { λ r. ⌜ r ≤ commitMost ⌝ }
-{
-    if row[0] == 0 {
-        return 0;
-    }
-    submission::COMMIT_SIGNERS_AT + signed_size(plan.size, plan.replicas, &row[PLACES_AT..])
-}
-
-// The bytes of the certificates and stamps of all rows.
-fn leads_size(plan: Plan, taken: &[usize]) -> usize
-    requires { ⌜ (plan .width ≤ widthMost) × (plan .size ≤ signatureMost) × (plan .replicas ≤ replicasMost)
-        × (plan .leaders ≤ leaderMost) × (takenSize * plan .leaders ≤ length (now taken)) ⌝ }
-    ensures size { λ r. ⌜ ((items votes : List ℕ) → RowsInside items plan (now (taken .entry))
-        → voteHead + voteTail (plan .width) * plan .leaders ≤ length votes
-        → r ≡ length (leadersPart items plan votes (now (taken .entry)))
-        + length (stampsPart items plan (now (taken .entry)))) ⌝ }
-    ensures most { λ r. ⌜ r ≤ leadMost * plan .leaders ⌝ }
-{
-    let leaders = plan.leaders;
-    let mut at = 0;
-    let mut t = 0;
-    while t < leaders {
-        let row = TAKEN_SIZE * t;
-        let row_end = row + TAKEN_SIZE;
-        let lead = lead_size(&taken[row..row_end], plan);
-        at += lead;
-        t += 1;
-    }
-    at
-}
-
-// The bytes of what is to be written, from the rows.
-pub fn written_size(log: &[u8], plan: Plan, taken: &[usize]) -> usize
-    requires { ⌜ (plan .width ≤ widthMost) × (plan .size ≤ signatureMost) × (plan .replicas ≤ replicasMost)
-        × (plan .leaders ≤ leaderMost) × (takenSize * (plan .leaders + 1) ≤ length (now taken)) ⌝ }
-    ensures { λ r. ⌜ ((roster items votes : List ℕ)
-        → Planned roster (now (log .entry)) items votes plan (now (taken .entry))
-        → r ≡ length (bytesTaken roster (now (log .entry)) items plan (now (taken .entry)))) ⌝ }
-{
-    let row = TAKEN_SIZE * plan.leaders;
-    let leads = leads_size(plan, taken);
-    let commit = commit_size(&taken[row..], plan);
-    log.len() + leads + commit + TRAILER_SIZE
 }
 
 // Writes the submission that the rows stand for, and gives the number of its bytes.
@@ -378,8 +231,8 @@ pub fn write(
     words::put_bytes(out, 0, log);
     let rest = &mut out[first..];
     let sizes = put_certified(rest, items, votes, plan, taken);
-    let fields = trailer_fields(plan, first, sizes);
+    let fields = trailer::trailer_fields(plan, first, sizes);
     let at = first + (sizes.leaders + (sizes.stamps + sizes.commit));
     let end = &mut out[at..];
-    at + put_trailer(end, &roster[0..roster::NAME_SIZE], fields)
+    at + trailer::put_trailer(end, &roster[0..roster::NAME_SIZE], fields)
 }

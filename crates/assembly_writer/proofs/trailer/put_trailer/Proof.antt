@@ -5,8 +5,8 @@ use borrow.Author.Needs.{needs}
 use Rattle.assembly_writer.specs.Parts.{trailerPart}
 use Rattle.words.proofs.Over.{begun-long, rest-inside, rest-room, rest-put}
 use Rattle.assembly_writer.proofs.Heads.{name-room, name-begun}
-use Rattle.assembly_writer.proofs.put_trailer.Statement.{statement}
-use Rattle.assembly_writer.proofs.put_trailer.Tie as tie
+use Rattle.assembly_writer.proofs.trailer.put_trailer.Statement.{statement}
+use Rattle.assembly_writer.proofs.trailer.put_trailer.Tie as tie
 
 put-bytes-requires : tie.Need-put-bytes-requires
 put-bytes-requires c κs = let start = c .before .before .before in let a = start .args in omega (arith, name-room (a .name .now) _ (a .out .now) (start .pre))

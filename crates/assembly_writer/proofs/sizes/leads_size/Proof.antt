@@ -10,8 +10,8 @@ use Rattle.assembly_terms.specs.Wanted.{voteHead, voteTail}
 use Rattle.assembly_writer.specs.Parts.{leadMost, voteEndAt, RowsInside}
 use Rattle.assembly_writer.proofs.Rows.{row-part}
 use Rattle.assembly_writer.proofs.Lengths.{row-cut-long, leadsLength, leads-none, leads-next}
-use Rattle.assembly_writer.proofs.leads_size.Statement.{statement}
-use Rattle.assembly_writer.proofs.leads_size.Tie as tie
+use Rattle.assembly_writer.proofs.sizes.leads_size.Statement.{statement}
+use Rattle.assembly_writer.proofs.sizes.leads_size.Tie as tie
 
 abbrev Inv-loop : tie.InvT-loop
 Inv-loop plan taken leaders at₀ t₀ at t =

@@ -10,8 +10,8 @@ use Rattle.words.proofs.Laws.{length-be}
 use Rattle.assembly_writer.specs.Parts.{fieldCount}
 use Rattle.words.proofs.Over.{over-first}
 use Rattle.assembly_writer.proofs.Joined.{PartsPut, parts-none, part-inside, part-room, part-put, parts-all}
-use Rattle.assembly_writer.proofs.put_fields.Statement.{statement}
-use Rattle.assembly_writer.proofs.put_fields.Tie as tie
+use Rattle.assembly_writer.proofs.trailer.put_fields.Statement.{statement}
+use Rattle.assembly_writer.proofs.trailer.put_fields.Tie as tie
 
 abbrev Inv-loop : tie.InvT-loop
 Inv-loop out₀ fields at₀ i₀ out at i = PartsPut (λ j. be 4 (getD fields j 0)) out₀ fieldCount i at out

@@ -5,8 +5,8 @@ use borrow.Author.Needs.{needs}
 use Rattle.words.proofs.Laws.{part-end}
 use Rattle.submission.specs.Reading.{ballotSize}
 use Rattle.assembly_writer.proofs.Heads.{certificate-long}
-use Rattle.assembly_writer.proofs.lead_size.Statement.{statement}
-use Rattle.assembly_writer.proofs.lead_size.Tie as tie
+use Rattle.assembly_writer.proofs.sizes.lead_size.Statement.{statement}
+use Rattle.assembly_writer.proofs.sizes.lead_size.Tie as tie
 
 returns : tie.Need-returns
 unfolding ballotSize

@@ -7,8 +7,8 @@ use Rattle.words.proofs.Laws.{bytes-each, part-end}
 use Rattle.assembly_copies.specs.Rows.{takenSize}
 use Rattle.assembly_writer.proofs.Rows.{commit-row-places}
 use Rattle.assembly_writer.proofs.Planned.{votes-room, written-long}
-use Rattle.assembly_writer.proofs.written_size.Statement.{statement}
-use Rattle.assembly_writer.proofs.written_size.Tie as tie
+use Rattle.assembly_writer.proofs.sizes.written_size.Statement.{statement}
+use Rattle.assembly_writer.proofs.sizes.written_size.Tie as tie
 
 returns : tie.Need-returns
 returns c =

@@ -3,8 +3,8 @@
 use native.Mathlib.Omega.{arith}
 use borrow.Author.Needs.{needs}
 use Rattle.assembly_writer.proofs.Lengths.{ones-few, ones-small, ones-signed}
-use Rattle.assembly_writer.proofs.signed_size.Statement.{statement}
-use Rattle.assembly_writer.proofs.signed_size.Tie as tie
+use Rattle.assembly_writer.proofs.sizes.signed_size.Statement.{statement}
+use Rattle.assembly_writer.proofs.sizes.signed_size.Tie as tie
 
 cast-count : tie.Need-cast-count
 cast-count c =

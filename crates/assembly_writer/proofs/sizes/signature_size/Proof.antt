@@ -3,8 +3,8 @@
 use mathlib.Core.List.{[]}
 use native.Mathlib.Omega.{arith}
 use Rattle.assembly_writer.proofs.Signatures.{none-put, signature-long}
-use Rattle.assembly_writer.proofs.signature_size.Statement.{statement}
-use Rattle.assembly_writer.proofs.signature_size.Tie as tie
+use Rattle.assembly_writer.proofs.sizes.signature_size.Statement.{statement}
+use Rattle.assembly_writer.proofs.sizes.signature_size.Tie as tie
 
 returns : tie.Need-returns
 returns c = let a = c .before .args in (λ itemBytes h. none-put (a .size) itemBytes (a .place) [] (c .if1 .taken) .0, omega arith)

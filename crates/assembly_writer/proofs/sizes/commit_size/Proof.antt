@@ -9,8 +9,8 @@ use Rattle.words.specs.BigEndian.{be}
 use Rattle.words.proofs.Laws.{part-end, length-be}
 use Rattle.assembly_writer.specs.Parts.{signedAt}
 use Rattle.assembly_writer.proofs.Heads.{commit-none, commit-some}
-use Rattle.assembly_writer.proofs.commit_size.Statement.{statement}
-use Rattle.assembly_writer.proofs.commit_size.Tie as tie
+use Rattle.assembly_writer.proofs.sizes.commit_size.Statement.{statement}
+use Rattle.assembly_writer.proofs.sizes.commit_size.Tie as tie
 
 returns : tie.Need-returns
 returns c =
