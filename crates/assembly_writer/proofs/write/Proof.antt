@@ -1,166 +1,127 @@
 -- The log, parts 2 to 4, the trailer: each begins where the last one ended.
 -- Assumes nothing.
 use mathlib.Core.Path.{sym, ap, _∙_}
+use mathlib.Core.List.{List, _++_}
+use Prim.Native.Nat.{ℕ, _+_, _-_, _≤_, _<_}
 use native.Mathlib.Omega.{arith}
 use borrow.Author.Needs.{needs}
+use borrow.Rule.Slice.PartMut.{putMid}
 use lib.ListN.{length}
 use Rattle.words.specs.Over.{over}
+use Rattle.words.proofs.Bytes.{Bytes}
 use Rattle.words.proofs.Laws.{bytes-each}
+use Rattle.words.proofs.Over.{Begun, begun-long, rest-inside, rest-room, rest-put}
 use Rattle.roster.specs.Roster.{cluster}
-use Rattle.words.proofs.Over.{begun-long, rest-inside, rest-room, rest-put}
+use Rattle.assembly_writer.specs.Parts.{certifiedPart, fieldsFor, trailerPart}
 use Rattle.assembly_writer.proofs.Planned.{votes-room, index-small, bytes-parts, log-room, log-begun, sizes-small, certified-put}
 use Rattle.assembly_writer.proofs.write.Statement.{statement}
 use Rattle.assembly_writer.proofs.write.Tie as tie
 
-put-bytes-requires : tie.Need-put-bytes-requires
-put-bytes-requires c κs =
-    let start = c .before .before .before .before .before .before .before in
-    let a = start .args in
-    let known = bytes-each (a .log .now) (λ j. c .before .before .before .before .shared-slice-known2 .given j .fits) in
-    omega (arith, log-room (start .pre .0) known (a .out .now) (start .pre .1))
+-- ---- before the log is put
 
-sub-rest : tie.Need-sub-rest
-sub-rest c =
-    let head = c .before .before in
-    let start = head .before .before .before .before .before .before .before .before in
-    let a = start .args in
-    let known = bytes-each (a .log .now) (λ j. head .before .before .before .before .before .shared-slice-known2 .given j .fits) in
-    omega (arith, log-room (start .pre .0) known (a .out .now) (start .pre .1))
+module _ (c : tie.After-put-bytes-arg) where
+  abbrev start : tie.Start
+  start = c .before .before .before .before .before .before .before
 
-part-rest-start : tie.Need-part-rest-start
-part-rest-start c =
-    let head = c .before .before in
-    let start = head .before .before .before .before .before .before .before .before in
-    let a = start .args in
-    let known = bytes-each (a .log .now) (λ j. head .before .before .before .before .before .shared-slice-known2 .given j .fits) in
-    omega (arith, log-room (start .pre .0) known (a .out .now) (start .pre .1))
+  abbrev log : List ℕ
+  log = start .args .log .now
+
+  abbrev out : List ℕ
+  out = start .args .out .now
+
+  known : Bytes log
+  known = bytes-each log (λ j. c .before .before .before .before .shared-slice-known2 .given j .fits)
+
+  log-inside : length log ≤ length out
+  log-inside = log-room (start .pre .0) known out (start .pre .1)
+
+-- ---- after parts 2 to 4
+
+module _ (c : tie.After-put-certified) where
+  abbrev head : tie.After-put-bytes
+  head = c .before .before .before .before
+
+  abbrev first : tie.Start
+  first = start (head .before)
+
+  abbrev parts : List ℕ
+  parts = certifiedPart (first .args .items .now) (first .args .plan) (first .args .votes .now) (first .args .taken .now)
+
+  abbrev fields : List ℕ
+  fields = fieldsFor (first .args .plan) (length (log (head .before))) (c .put-certified .result)
+
+  abbrev parts-end : ℕ
+  parts-end =
+      length (log (head .before))
+      + (c .put-certified .result .leaders + (c .put-certified .result .stamps + c .put-certified .result .commit))
+
+  small : parts-end < 4294967296
+  small = sizes-small (first .pre .0) (known (head .before)) (out (head .before)) (first .pre .1) (c .put-certified .ensures .0)
+
+  left : Begun (log (head .before) ++ parts) (trailerPart (cluster (first .args .roster .now)) fields)
+      (out (head .before))
+      (putMid (length (log (head .before))) (length (head .put-bytes .last .0) - length (log (head .before))) (head .put-bytes .last .0) (c .put-certified .last .0))
+      parts-end
+  left =
+      certified-put (first .pre .0) (known (head .before)) (out (head .before)) (first .pre .1) (c .put-certified .ensures .0)
+      (head .put-bytes .ensures) (c .put-certified .ensures .1)
+
+-- ---- the needs
 
 put-certified-requires : tie.Need-put-certified-requires
 put-certified-requires c κs =
     let head = c .before .before .before in
-    let start = head .before .before .before .before .before .before .before .before in
-    let a = start .args in
-    let known = bytes-each (a .log .now) (λ j. head .before .before .before .before .before .shared-slice-known2 .given j .fits) in
-    let b = log-begun (start .pre .0) known (a .out .now) (start .pre .1) (head .put-bytes .ensures) in
-    (start .pre .0 .held, votes-room (start .pre .0), index-small (start .pre .0), rest-room b)
+    let plan = start (head .before) .pre .0 in
+    let b = log-begun plan (known (head .before)) (out (head .before)) (start (head .before) .pre .1) (head .put-bytes .ensures) in
+    (plan .held, votes-room plan, index-small plan, rest-room b)
 
 trailer-fields-requires : tie.Need-trailer-fields-requires
 trailer-fields-requires c κs =
-    let certified = c .before .before in
-    let head = certified .before .before .before .before in
-    let start = head .before .before .before .before .before .before .before .before in
-    let a = start .args in
-    let known = bytes-each (a .log .now) (λ j. head .before .before .before .before .before .shared-slice-known2 .given j .fits) in
-    let small = sizes-small (start .pre .0) known (a .out .now) (start .pre .1) (certified .put-certified .ensures .0) in
-    (omega (arith, start .pre .0 .records), omega (arith, start .pre .0 .held .few), small)
-
-add-at : tie.Need-add-at
-add-at c =
-    let certified = c .before .before .before .before in
-    let head = certified .before .before .before .before in
-    let start = head .before .before .before .before .before .before .before .before in
-    let a = start .args in
-    let known = bytes-each (a .log .now) (λ j. head .before .before .before .before .before .shared-slice-known2 .given j .fits) in
-    let small = sizes-small (start .pre .0) known (a .out .now) (start .pre .1) (certified .put-certified .ensures .0) in
-    omega (arith, small)
-
-add-at-2 : tie.Need-add-at-2
-add-at-2 c =
-    let certified = c .before .before .before .before .before in
-    let head = certified .before .before .before .before in
-    let start = head .before .before .before .before .before .before .before .before in
-    let a = start .args in
-    let known = bytes-each (a .log .now) (λ j. head .before .before .before .before .before .shared-slice-known2 .given j .fits) in
-    let small = sizes-small (start .pre .0) known (a .out .now) (start .pre .1) (certified .put-certified .ensures .0) in
-    omega (arith, small)
-
-add-at-3 : tie.Need-add-at-3
-add-at-3 c =
-    let certified = c .before .before .before .before .before in
-    let head = certified .before .before .before .before in
-    let start = head .before .before .before .before .before .before .before .before in
-    let a = start .args in
-    let known = bytes-each (a .log .now) (λ j. head .before .before .before .before .before .shared-slice-known2 .given j .fits) in
-    let small = sizes-small (start .pre .0) known (a .out .now) (start .pre .1) (certified .put-certified .ensures .0) in
-    omega (arith, small)
-
-sub-end : tie.Need-sub-end
-sub-end c =
-    let certified = c .before .before .before .before .before in
-    let head = certified .before .before .before .before in
-    let start = head .before .before .before .before .before .before .before .before in
-    let a = start .args in
-    let known = bytes-each (a .log .now) (λ j. head .before .before .before .before .before .shared-slice-known2 .given j .fits) in
-    let made = certified .put-certified .ensures in
-    let d = certified-put (start .pre .0) known (a .out .now) (start .pre .1) (made .0) (head .put-bytes .ensures) (made .1) in
-    omega (arith, rest-inside d)
-
-part-end-start : tie.Need-part-end-start
-part-end-start c =
-    let certified = c .before .before .before .before .before in
-    let head = certified .before .before .before .before in
-    let start = head .before .before .before .before .before .before .before .before in
-    let a = start .args in
-    let known = bytes-each (a .log .now) (λ j. head .before .before .before .before .before .shared-slice-known2 .given j .fits) in
-    let made = certified .put-certified .ensures in
-    let d = certified-put (start .pre .0) known (a .out .now) (start .pre .1) (made .0) (head .put-bytes .ensures) (made .1) in
-    omega (arith, rest-inside d)
+    let plan = first (c .before .before) .pre .0 in
+    (omega (arith, plan .records), omega (arith, plan .held .few), small (c .before .before))
 
 put-trailer-requires : tie.Need-put-trailer-requires
 unfolding cluster
 put-trailer-requires c κs =
-    let certified = c .before .before .before .before .before .before .before in
-    let head = certified .before .before .before .before in
-    let start = head .before .before .before .before .before .before .before .before in
-    let a = start .args in
-    let known = bytes-each (a .log .now) (λ j. head .before .before .before .before .before .shared-slice-known2 .given j .fits) in
-    let made = certified .put-certified .ensures in
-    let d = certified-put (start .pre .0) known (a .out .now) (start .pre .1) (made .0) (head .put-bytes .ensures) (made .1) in
-    rw (c .before .before .before .before .trailer-fields .ensures) (rest-room d)
+    rw (c .before .before .before .before .trailer-fields .ensures) (rest-room (left (c .before .before .before .before .before .before .before)))
 
 add-result : tie.Need-add-result
 unfolding cluster
 add-result c =
-    let certified = c .before .before .before .before .before .before .before .before .before .before in
-    let head = certified .before .before .before .before in
-    let start = head .before .before .before .before .before .before .before .before in
-    let a = start .args in
-    let known = bytes-each (a .log .now) (λ j. head .before .before .before .before .before .shared-slice-known2 .given j .fits) in
-    let made = certified .put-certified .ensures in
-    let d = certified-put (start .pre .0) known (a .out .now) (start .pre .1) (made .0) (head .put-bytes .ensures) (made .1) in
-    let e = rw (c .before .before .before .before .before .before .before .trailer-fields .ensures) at (c .before .before .put-trailer .ensures) in
+    let fields = c .before .before .before .before .before .before .before in
+    let certified = fields .before .before .before in
+    let log = certified .before .before .before .before in
+    let begin = log .before .before .before .before .before .before .before .before in
+    let d = certified-put (begin .pre .0) (known (log .before)) (begin .args .out .now) (begin .pre .1) (certified .put-certified .ensures .0)
+    (log .put-bytes .ensures) (certified .put-certified .ensures .1) in
+    let e = rw (fields .trailer-fields .ensures) at (c .before .before .put-trailer .ensures) in
     omega (arith, rest-inside d, begun-long d, e .0)
 
 returns : tie.Need-returns
 unfolding cluster
 returns c =
-    let certified = c .before .before .before .before .before .before .before .before .before .before in
-    let head = certified .before .before .before .before in
-    let start = head .before .before .before .before .before .before .before .before in
-    let a = start .args in
-    let known = bytes-each (a .log .now) (λ j. head .before .before .before .before .before .shared-slice-known2 .given j .fits) in
-    let made = certified .put-certified .ensures in
-    let d = certified-put (start .pre .0) known (a .out .now) (start .pre .1) (made .0) (head .put-bytes .ensures) (made .1) in
-    let e = rw (c .before .before .before .before .before .before .before .trailer-fields .ensures) at (c .before .before .put-trailer .ensures) in
-    let whole = bytes-parts (start .pre .0) known (made .0) in
-    let end = rest-put d (e .0) (e .1) in
-    (end .0 ∙ sym (ap length whole), end .1 ∙ ap (λ z. over z (a .out .now)) (sym whole))
+    let fields = c .before .before .before .before .before .before .before in
+    let certified = fields .before .before .before in
+    let e = rw (fields .trailer-fields .ensures) at (c .before .before .put-trailer .ensures) in
+    let whole = bytes-parts (first certified .pre .0) (known (head certified .before)) (certified .put-certified .ensures .0) in
+    let end = rest-put (left certified) (e .0) (e .1) in
+    (end .0 ∙ sym (ap length whole), end .1 ∙ ap (λ z. over z (first certified .args .out .now)) (sym whole))
 
 pub write-spec : {M : Type 1} → statement M
 write-spec =
     tie.close
     (tie.spec
-    put-bytes-requires
-    sub-rest
-    part-rest-start
+    (λ c κs. omega (arith, log-inside c))
+    (λ c. omega (arith, log-inside (c .before .before .before)))
+    (λ c. omega (arith, log-inside (c .before .before .before)))
     (λ c. search needs)
     put-certified-requires
     trailer-fields-requires
-    add-at
-    add-at-2
-    add-at-3
-    sub-end
-    part-end-start
+    (λ c. omega (arith, small (c .before .before .before .before)))
+    (λ c. omega (arith, small (c .before .before .before .before .before)))
+    (λ c. omega (arith, small (c .before .before .before .before .before)))
+    (λ c. omega (arith, rest-inside (left (c .before .before .before .before .before))))
+    (λ c. omega (arith, rest-inside (left (c .before .before .before .before .before))))
     (λ c. search needs)
     (λ c. search needs)
     (λ c. search needs)
