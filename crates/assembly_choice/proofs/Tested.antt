@@ -1,4 +1,4 @@
--- One candidate in one term: his votes and his stamp, asked in order; and what the row then says.
+-- One candidate in one term: its votes and its stamp, asked in order; and what the row then says.
 -- Assumes nothing.
 use mathlib.Core.Path.{_≡_, refl, sym, ap, _∙_}
 use mathlib.Core.Bool.{Bool, true, false, not, cond}
@@ -49,7 +49,7 @@ all-three true true false = refl
 all-three true false d = refl
 all-three false b d = refl
 
--- ---- a row after a candidate was tried: he comes before those above him
+-- ---- a row after a candidate was tried: it comes before those above it
 
 module _ (S : ℕ) (itemBytes : List ℕ) (form : Form) (roster : List ℕ) (items : List Item) (few : replicas roster ≤ replicasMost)
     (c : ℕ) (some-one : 0 < c) (r : Run) (votes : List ℕ) (stamp : ℕ) (row : List ℕ)

@@ -1,4 +1,4 @@
--- Candidates tried from n down: each comes before those above him, and rows stay inside the bag.
+-- Candidates tried from n down: each comes before those above it, and rows stay inside the bag.
 -- Assumes nothing.
 use mathlib.Core.Path.{_≡_, ap, _∙_}
 use mathlib.Core.Bool.{true, false, cond}

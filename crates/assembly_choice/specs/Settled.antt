@@ -31,7 +31,7 @@ unfoldable pub electable : ℕ → ℕ → ℕ → ℕ → Bool
 electable n mask candidate stamp =
     all (leb (quorum n) (ones mask) ∷ signer mask candidate ∷ not (eqb stamp 0) ∷ [])
 
--- a row after a candidate was tried, from the places of his votes and of his stamp
+-- a row after a candidate was tried, from the places of its votes and of its stamp
 unfoldable pub settledRow : ℕ → List ℕ → ℕ → ℕ → List ℕ → ℕ → List ℕ → List ℕ
 settledRow S itemBytes n candidate votes stamp row =
     cond (electable n (signersOf (copiesAt S itemBytes n votes)) candidate stamp)

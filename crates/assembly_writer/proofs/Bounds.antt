@@ -2,17 +2,16 @@
 -- Assumes nothing.
 use mathlib.Core.Path.{_≡_}
 use mathlib.Core.Bool.{true, false}
-use mathlib.Core.List.{List, _++_}
+use mathlib.Core.List.{List, []}
 use mathlib.Core.Logic.{⊎-elim}
 use Prim.Native.Nat.{ℕ, _+_, _*_, _≤_, _<_}
 use native.Mathlib.Nat.{mul-le-mul-left, mul-le-mul-right}
 use native.Mathlib.Omega.{arith}
+use borrow.Author.Tests.{eqb-true, eqb-false}
 use lib.Count.{ones}
 use lib.Dec.{eqb}
-use lib.ListN.{length, getD, drop, length-take, length-append}
-use Rattle.words.specs.BigEndian.{be}
+use lib.ListN.{length, getD, drop, length-take}
 use Rattle.words.specs.Widths.{widthMost}
-use Rattle.words.proofs.Laws.{length-be}
 use Rattle.refusal.proofs.Laws.{look}
 use Rattle.log_chain.specs.Records.{recordSize}
 use Rattle.submission.specs.Validate.{recordMost, leaderMost}
@@ -23,7 +22,7 @@ use Rattle.assembly_writer.specs.declared.Plan.{Plan}
 use Rattle.assembly_writer.specs.Parts.{signatureAt, signedAt, certificateIn, commitPart, voteEndAt, certificatePart, leadersPart, stampsPart, signedMost, commitMost, PlacesHeld, RowsInside}
 use Rattle.assembly_writer.proofs.Joined.{joined-most}
 use Rattle.assembly_writer.proofs.Signed.{signed-long, signers-few}
-use Rattle.assembly_writer.proofs.Heads.{certificate-long}
+use Rattle.assembly_writer.proofs.Heads.{certificate-long, commit-none, commit-long}
 use Rattle.assembly_writer.proofs.Rows.{row-places, commit-row-places}
 
 -- ---- one certificate, one stamp
@@ -46,18 +45,11 @@ module _ (S : ℕ) (itemBytes : List ℕ) where
       omega (arith, certificate-long S itemBytes n end row, signed-most n (drop 2 row) held)
 
   commit-most : (n : ℕ) (row : List ℕ) → PlacesHeld S itemBytes n (drop 2 row) → length (commitPart S itemBytes n row) ≤ commitMost
-  unfolding commitPart
   commit-most n row held =
       ⊎-elim
-      (λ (e : eqb (getD row 0 0) 0 ≡ true). rw e (omega arith))
+      (λ (e : eqb (getD row 0 0) 0 ≡ true). omega (arith, commit-none S itemBytes n row [] (eqb-true (getD row 0 0) 0 e) .0))
       (λ (e : eqb (getD row 0 0) 0 ≡ false).
-      rw e
-      (omega (
-        arith,
-        length-append (be 4 (getD row 0 0)) (signedAt S itemBytes n (drop 2 row)),
-        length-be 4 (getD row 0 0),
-        signed-most n (drop 2 row) held,
-      )))
+      omega (arith, commit-long S itemBytes n row [] (eqb-false (getD row 0 0) 0 e), signed-most n (drop 2 row) held))
       (look (eqb (getD row 0 0) 0))
 
   stamp-most : (place : ℕ) → length (signatureAt S itemBytes place) ≤ S

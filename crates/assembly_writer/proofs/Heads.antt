@@ -61,10 +61,12 @@ module _ (S : ℕ) (itemBytes : List ℕ) (n : ℕ) (row e : List ℕ) where
     unfolding commitPart
     commit-some = rw (ne-eqb (getD row 0 0) 0 some-index) refl
 
+    pub commit-long : length (commitPart S itemBytes n row) ≡ 4 + length (signedAt S itemBytes n (drop 2 row))
+    commit-long = omega (arith, ap length commit-some, length-append index (signedAt S itemBytes n (drop 2 row)), length-be 4 (getD row 0 0))
+
     module _ (room : length (commitPart S itemBytes n row) ≤ length e) where
       pub commit-head : 4 ≤ length e
-      commit-head =
-          omega (arith, room, ap length commit-some, length-append index (signedAt S itemBytes n (drop 2 row)), length-be 4 (getD row 0 0))
+      commit-head = omega (arith, room, commit-long)
 
       pub commit-begun : {out : List ℕ} → out ≡ sets e 0 index → Begun index (signedAt S itemBytes n (drop 2 row)) e out 4
       commit-begun p = begun-first (omega (arith, ap length commit-some)) p (sym (length-be 4 (getD row 0 0)))

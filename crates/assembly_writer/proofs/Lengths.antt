@@ -1,15 +1,13 @@
 -- How many bytes the parts have, from the rows alone.
 -- Assumes nothing.
 use mathlib.Core.Path.{_≡_, refl, sym, ap, _∙_}
-use mathlib.Core.List.{List, [], _++_}
+use mathlib.Core.List.{List, []}
 use Prim.Native.Nat.{ℕ, _+_, _-_, _*_, _≤_, _<_}
 use native.Mathlib.Nat.{mul-le-mul-left}
 use native.Mathlib.Omega.{arith}
 use lib.Count.{ones}
 use lib.ListN.{length, getD, drop, length-append, length-drop}
 use lib.Seq.{length-take-le}
-use Rattle.words.specs.BigEndian.{be}
-use Rattle.words.proofs.Laws.{length-be}
 use Rattle.roster.specs.Sizes.{signatureMost}
 use Rattle.submission_encoding.specs.Copies.{signersOf}
 use Rattle.assembly_copies.specs.Rows.{replicasMost, takenSize, copiesAt, rowAt}

@@ -1,14 +1,10 @@
 -- Nothing, or the index, signers and signatures.
 -- Assumes nothing.
-use mathlib.Core.Path.{ap}
 use mathlib.Core.List.{[]}
 use native.Mathlib.Omega.{arith}
 use borrow.Author.Needs.{needs}
-use lib.ListN.{length, getD, drop, length-append}
-use Rattle.words.specs.BigEndian.{be}
-use Rattle.words.proofs.Laws.{part-end, length-be}
-use Rattle.assembly_writer.specs.Parts.{signedAt}
-use Rattle.assembly_writer.proofs.Heads.{commit-none, commit-some}
+use Rattle.words.proofs.Laws.{part-end}
+use Rattle.assembly_writer.proofs.Heads.{commit-none, commit-long}
 use Rattle.assembly_writer.proofs.sizes.commit_size.Statement.{statement}
 use Rattle.assembly_writer.proofs.sizes.commit_size.Tie as tie
 
@@ -26,9 +22,7 @@ returns-2 c =
           omega (
             arith,
             long itemBytes held,
-            ap length (commit-some (a .plan .size) itemBytes (a .plan .replicas) (a .row .now) [] (branch .if1 .left)),
-            length-append (be 4 (getD (a .row .now) 0 0)) (signedAt (a .plan .size) itemBytes (a .plan .replicas) (drop 2 (a .row .now))),
-            length-be 4 (getD (a .row .now) 0 0),
+            commit-long (a .plan .size) itemBytes (a .plan .replicas) (a .row .now) [] (branch .if1 .left),
           ),
       omega (arith, c .signed-size .ensures .1),
     )
