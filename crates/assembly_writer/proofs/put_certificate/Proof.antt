@@ -3,8 +3,8 @@
 use native.Mathlib.Omega.{arith}
 use borrow.Author.Needs.{needs}
 use Rattle.words.proofs.Laws.{part-end}
-use Rattle.assembly_writer.specs.Parts.{certificateIn}
 use Rattle.words.proofs.Over.{begun-long, rest-inside, rest-room, rest-put}
+use Rattle.assembly_writer.specs.Parts.{certificateIn}
 use Rattle.assembly_writer.proofs.Heads.{certificate-head, certificate-begun}
 use Rattle.assembly_writer.proofs.put_certificate.Statement.{statement}
 use Rattle.assembly_writer.proofs.put_certificate.Tie as tie

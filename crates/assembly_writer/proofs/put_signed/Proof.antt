@@ -9,10 +9,10 @@ use lib.ListN.{length, length-append}
 use lib.Seq.{sets}
 use Rattle.words.specs.BigEndian.{be}
 use Rattle.words.proofs.Laws.{length-be}
+use Rattle.words.proofs.Over.{Begun, begun-first, begun-long, rest-inside, rest-room, rest-put}
 use Rattle.submission_encoding.specs.Copies.{signersOf}
 use Rattle.assembly_copies.specs.Rows.{copiesAt}
 use Rattle.assembly_writer.specs.Parts.{signaturesAt, signedAt}
-use Rattle.words.proofs.Over.{Begun, begun-first, begun-long, rest-inside, rest-room, rest-put}
 use Rattle.assembly_writer.proofs.put_signed.Statement.{statement}
 use Rattle.assembly_writer.proofs.put_signed.Tie as tie
 

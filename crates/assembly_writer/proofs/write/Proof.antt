@@ -29,6 +29,9 @@ module _ (c : tie.After-put-bytes-arg) where
   abbrev out : List ℕ
   out = start .args .out .now
 
+  out-fits : length out < 18446744073709551616
+  out-fits = search needs
+
   known : Bytes log
   known = bytes-each log (λ j. c .before .before .before .before .shared-slice-known2 .given j .fits)
 
@@ -90,12 +93,9 @@ unfolding cluster
 add-result c =
     let fields = c .before .before .before .before .before .before .before in
     let certified = fields .before .before .before in
-    let log = certified .before .before .before .before in
-    let begin = log .before .before .before .before .before .before .before .before in
-    let d = certified-put (begin .pre .0) (known (log .before)) (begin .args .out .now) (begin .pre .1) (certified .put-certified .ensures .0)
-    (log .put-bytes .ensures) (certified .put-certified .ensures .1) in
+    let d = left certified in
     let e = rw (fields .trailer-fields .ensures) at (c .before .before .put-trailer .ensures) in
-    omega (arith, rest-inside d, begun-long d, e .0)
+    omega (arith, rest-inside d, begun-long d, out-fits (head certified .before), e .0)
 
 returns : tie.Need-returns
 unfolding cluster

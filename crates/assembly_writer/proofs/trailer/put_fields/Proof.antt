@@ -7,8 +7,8 @@ use borrow.Author.Needs.{needs}
 use lib.ListN.{getD}
 use Rattle.words.specs.BigEndian.{be}
 use Rattle.words.proofs.Laws.{length-be}
-use Rattle.assembly_writer.specs.Parts.{fieldCount}
 use Rattle.words.proofs.Over.{over-first}
+use Rattle.assembly_writer.specs.Parts.{fieldCount}
 use Rattle.assembly_writer.proofs.Joined.{PartsPut, parts-none, part-inside, part-room, part-put, parts-all}
 use Rattle.assembly_writer.proofs.trailer.put_fields.Statement.{statement}
 use Rattle.assembly_writer.proofs.trailer.put_fields.Tie as tie

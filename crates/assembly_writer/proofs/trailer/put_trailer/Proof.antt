@@ -2,8 +2,8 @@
 -- Assumes nothing.
 use native.Mathlib.Omega.{arith}
 use borrow.Author.Needs.{needs}
-use Rattle.assembly_writer.specs.Parts.{trailerPart}
 use Rattle.words.proofs.Over.{begun-long, rest-inside, rest-room, rest-put}
+use Rattle.assembly_writer.specs.Parts.{trailerPart}
 use Rattle.assembly_writer.proofs.Heads.{name-room, name-begun}
 use Rattle.assembly_writer.proofs.trailer.put_trailer.Statement.{statement}
 use Rattle.assembly_writer.proofs.trailer.put_trailer.Tie as tie
