@@ -107,7 +107,7 @@ all-signers roster statement g n y = rw (n, true-same statement, y 1, y 2, y 3)
 -- ---- the candidate and the commit that are taken
 
 module _ (form : Form) (roster : List ℕ) (is : List Item) where
-  -- a candidate with a quorum of votes, his own among them, and a stamp leads; none leads who lacks one of the three
+  -- a candidate with a quorum of votes, its own among them, and a stamp leads; none leads that lacks one of the three
   module _ (c : ℕ) (r : Run) where
     abbrev mask : ℕ
     mask = signersOf (votesFor form roster is c r)

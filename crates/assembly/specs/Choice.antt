@@ -52,11 +52,11 @@ module _ (form : Form) (roster : List ℕ) (items : List Item) where
   unfoldable pub votesFor : ℕ → Run → List (Option (List ℕ))
   votesFor candidate r = copies roster (say form (voted (ballotFor form candidate r))) items
 
-  -- his stamp on the term's last record
+  -- its stamp on the term's last record
   unfoldable pub stampBy : ℕ → Run → Option (List ℕ)
   stampBy candidate r = copyOf roster candidate (say form (stamped (lastTerm (r .upto)) (r .upto))) items
 
-  -- a quorum of votes, his own among them, and a stamp
+  -- a quorum of votes, its own among them, and a stamp
   unfoldable pub leadBy : ℕ → Run → Option Lead
   leadBy candidate r =
       let votes = votesFor candidate r in

@@ -17,7 +17,8 @@ use Rattle.submission.specs.Validate.{leaderMost}
 use Rattle.assembly.specs.Items.{Item, itemsOf, copyOf, copiesFrom, copies}
 use Rattle.assembly.specs.Choice.{votesFor, stampBy}
 use Rattle.assembly_copies.specs.declared.Sought.{Sought}
-use Rattle.assembly_copies.specs.Rows.{replicasMost, copyAt, copiesAt}
+use Rattle.roster.specs.Sizes.{replicasMost}
+use Rattle.assembly_copies.specs.Rows.{copyAt, copiesAt}
 use Rattle.assembly_copies.specs.Sought.{CopiesFound}
 use Rattle.assembly_terms.specs.Wanted.{voteHead, voteTail, stampHead, stampTail, VotesIn, StampsIn}
 use Rattle.assembly_terms.proofs.Wanted.{votes-set, vote-statement, stamp-statement}

@@ -9,7 +9,8 @@ use borrow.Author.Count.{below-more}
 use lib.ListN.{length, getD, take, drop}
 use lib.Seq.{sets, length-take-le}
 use Rattle.submission_encoding.specs.Copies.{signersOf}
-use Rattle.assembly_copies.specs.Rows.{replicasMost, takenSize, copiesAt, rowAt}
+use Rattle.roster.specs.Sizes.{replicasMost}
+use Rattle.assembly_copies.specs.Rows.{takenSize, copiesAt, rowAt}
 use Rattle.assembly_choice.specs.Settled.{electable, settledRow, Settled}
 use Rattle.assembly_choice.proofs.Rows.{row-put, row-kept}
 

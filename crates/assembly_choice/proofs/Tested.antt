@@ -22,7 +22,8 @@ use Rattle.submission.specs.View.{Lead}
 use Rattle.submission_encoding.specs.Copies.{signersOf, signatureOf}
 use Rattle.assembly.specs.Items.{Item}
 use Rattle.assembly.specs.Choice.{votesFor, stampBy, leadOf, leadBy}
-use Rattle.assembly_copies.specs.Rows.{replicasMost, copyAt, copiesAt, leadIn}
+use Rattle.roster.specs.Sizes.{replicasMost}
+use Rattle.assembly_copies.specs.Rows.{copyAt, copiesAt, leadIn}
 use Rattle.assembly_choice.specs.Settled.{electable, settledRow, leadOfRow}
 
 module _ (S : ℕ) (itemBytes : List ℕ) (form : Form) (n c : ℕ) (few : n ≤ replicasMost) (some-one : 0 < c) (votes : List ℕ) (r : Run) where

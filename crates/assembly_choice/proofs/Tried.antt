@@ -19,7 +19,8 @@ use Rattle.log_chain.specs.Runs.{Run}
 use Rattle.submission_encoding.specs.Copies.{signersOf}
 use Rattle.assembly.specs.Items.{itemsOf}
 use Rattle.assembly.specs.Choice.{leadBy, leadFrom}
-use Rattle.assembly_copies.specs.Rows.{replicasMost, takenSize, copiesAt, Placed, rowAt}
+use Rattle.roster.specs.Sizes.{replicasMost}
+use Rattle.assembly_copies.specs.Rows.{takenSize, copiesAt, Placed, rowAt}
 use Rattle.assembly_copies.proofs.Taken.{row-cell}
 use Rattle.assembly_choice.specs.declared.Terms.{Terms}
 use Rattle.assembly_choice.specs.Chosen.{RowsHeld}

@@ -16,7 +16,8 @@ use Rattle.submission.specs.View.{Lead}
 use Rattle.submission_encoding.specs.Copies.{signersOf}
 use Rattle.assembly.specs.Items.{itemsOf}
 use Rattle.assembly.specs.Choice.{votesFor, stampBy, leadFrom}
-use Rattle.assembly_copies.specs.Rows.{replicasMost, takenSize, rowAt, copyAt, copiesAt, leadIn}
+use Rattle.roster.specs.Sizes.{replicasMost}
+use Rattle.assembly_copies.specs.Rows.{takenSize, rowAt, copyAt, copiesAt, leadIn}
 use Rattle.assembly_choice.specs.declared.Terms.{Terms}
 
 -- each of so many rows has a candidate

@@ -7,14 +7,15 @@ ghost use lib.ListN.{length};
 ghost use Rattle.roster.specs.Roster.{cluster, replicas};
 ghost use Rattle.log_chain.specs.Log.{withTerms};
 ghost use Rattle.log_chain.specs.Runs.{Run};
-ghost use Rattle.assembly_copies.specs.Rows.{replicasMost, takenSize, Placed};
+ghost use Rattle.roster.specs.Sizes.{replicasMost};
+ghost use Rattle.assembly_copies.specs.Rows.{takenSize, Placed};
 ghost use Rattle.assembly_terms.specs.Wanted.{votesRoom, stampsRoom, VotesIn, StampsIn};
 ghost use Rattle.assembly_choice.specs.Chosen.{Choosable, LeadersChosen, RowsHeld};
 ghost use Rattle.assembly_choice.specs.Settled.{allTaken, electable, Settled, Tried};
 ghost use Rattle.assembly_choice.specs.Settled.{StampsPlaced, VotesPlaced};
-use assembly_copies::REPLICAS_MOST;
 use assembly_copies::Sought;
 use assembly_copies::TAKEN_SIZE;
+use roster::REPLICAS_MOST;
 use submission_trailer::LEADER_MOST;
 
 // The widths of the bag's items, and the number of terms.

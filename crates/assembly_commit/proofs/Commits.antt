@@ -23,7 +23,8 @@ use Rattle.submission_encoding.specs.Copies.{signersOf, signaturesOf}
 use Rattle.assembly.specs.Items.{Item}
 use Rattle.assembly.specs.Choice.{receiptsFor, commitTo}
 use Rattle.assembly_copies.specs.declared.Sought.{Sought}
-use Rattle.assembly_copies.specs.Rows.{replicasMost, takenSize, copiesAt, commitIn, Placed}
+use Rattle.roster.specs.Sizes.{replicasMost}
+use Rattle.assembly_copies.specs.Rows.{takenSize, copiesAt, commitIn, Placed}
 use Rattle.assembly_copies.specs.Sought.{statementAt}
 use Rattle.assembly_commit.specs.Searched.{CommitRowHeld}
 

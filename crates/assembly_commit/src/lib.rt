@@ -4,11 +4,12 @@ ghost use mathlib.Core.Path.{_≡_};
 ghost use Prim.Native.Nat.{_≤_};
 ghost use lib.ListN.{length};
 ghost use Rattle.log_checkpoints.specs.Checkpoints.{Checkpoints, tableSize};
-ghost use Rattle.assembly_copies.specs.Rows.{replicasMost, takenSize, Placed};
+ghost use Rattle.roster.specs.Sizes.{replicasMost};
+ghost use Rattle.assembly_copies.specs.Rows.{takenSize, Placed};
 ghost use Rattle.assembly_commit.specs.Searched.{Receivable, ReceiptsFound, CommitFound, CommitRowHeld};
-use assembly_copies::REPLICAS_MOST;
 use assembly_copies::Sought;
 use assembly_copies::TAKEN_SIZE;
+use roster::REPLICAS_MOST;
 use submission::STATEMENT_MOST;
 use submission_trailer::RECORD_MOST;
 

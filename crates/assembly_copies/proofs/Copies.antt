@@ -17,7 +17,8 @@ use Rattle.assembly.specs.Items.{Item, fits, copyOf, copiesFrom, copies, itemsO
 use Rattle.assembly_items.specs.declared.ItemPlace.{ItemPlace}
 use Rattle.assembly_items.specs.Reader.{itemOf}
 use Rattle.assembly_copies.specs.declared.Sought.{Sought}
-use Rattle.assembly_copies.specs.Rows.{replicasMost, copyAt, copiesAt}
+use Rattle.roster.specs.Sizes.{replicasMost}
+use Rattle.assembly_copies.specs.Rows.{copyAt, copiesAt}
 use Rattle.assembly_copies.specs.Sought.{statementAt, CopiesFound}
 use Rattle.assembly_copies.specs.Offers.{Lies, Unlike, cellAfter, Taken}
 

@@ -14,7 +14,8 @@ use Rattle.assembly_items.specs.declared.ItemReading.the-variants.{Read, Refuse
 use Rattle.assembly_items.specs.Reader.{itemReading}
 use Rattle.assembly_items.proofs.Items.{stands, refused-broken, items-next, whole-next, items-end}
 use Rattle.assembly_copies.specs.declared.Sought.{Sought}
-use Rattle.assembly_copies.specs.Rows.{replicasMost, Placed}
+use Rattle.roster.specs.Sizes.{replicasMost}
+use Rattle.assembly_copies.specs.Rows.{Placed}
 use Rattle.assembly_copies.specs.Sought.{Searched, CopiesFound}
 use Rattle.assembly_copies.specs.Offers.{Lies, Unlike, Taken}
 use Rattle.assembly_copies.proofs.Copies.{Found, found-none, found-taken, found-unlike, found-all}

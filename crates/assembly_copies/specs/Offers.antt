@@ -14,7 +14,8 @@ use Rattle.assembly.specs.Items.{fits}
 use Rattle.assembly_items.specs.declared.ItemPlace.{ItemPlace}
 use Rattle.assembly_items.specs.Reader.{itemOf}
 use Rattle.assembly_copies.specs.declared.Sought.{Sought}
-use Rattle.assembly_copies.specs.Rows.{replicasMost, Placed}
+use Rattle.roster.specs.Sizes.{replicasMost}
+use Rattle.assembly_copies.specs.Rows.{Placed}
 use Rattle.assembly_copies.specs.Sought.{statementAt}
 
 -- an item that lies in the bag, with a signature of so many bytes

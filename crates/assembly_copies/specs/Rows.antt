@@ -6,15 +6,12 @@ use mathlib.Core.Option.{Option, some, none}
 use Prim.Native.Nat.{ℕ, _+_, _-_, _≤_, _<_, _*_}
 use lib.Dec.{eqb}
 use lib.ListN.{length, getD, take, drop}
+use Rattle.roster.specs.Sizes.{replicasMost}
 use Rattle.log_chain.specs.Log.{Form}
 use Rattle.log_chain.specs.Runs.{Run}
 use Rattle.submission.specs.View.{Certificate, Commit, Lead}
 use Rattle.submission_encoding.specs.Copies.{signersOf, signatureOf, signaturesOf}
 use Rattle.assembly.specs.Choice.{ballotFor}
-
--- the most replicas of a roster: the places of a row
-abbrev pub replicasMost : ℕ
-replicasMost = 9
 
 -- the numbers of a row of what is taken: the candidate or the commit index, the stamp, the votes or receipts
 abbrev pub takenSize : ℕ

@@ -8,10 +8,10 @@ use lib.ListN.{length, take, drop}
 use Rattle.words.specs.Widths.{widthMost}
 use Rattle.sha256.specs.Service.{limit}
 use Rattle.roster.specs.Roster.{replicas, rosterNumber}
-use Rattle.roster.specs.Sizes.{signatureMost}
+use Rattle.roster.specs.Sizes.{replicasMost, signatureMost}
 use Rattle.assembly.specs.Items.{itemsOf, whole, copies}
 use Rattle.assembly_copies.specs.declared.Sought.{Sought}
-use Rattle.assembly_copies.specs.Rows.{replicasMost, copiesAt}
+use Rattle.assembly_copies.specs.Rows.{copiesAt}
 
 -- statement m: what all begin with, then its own end
 unfoldable pub statementAt : Sought → List ℕ → ℕ → List ℕ

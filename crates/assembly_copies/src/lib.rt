@@ -7,17 +7,16 @@ ghost use Prim.Native.Nat.{ℕ, _+_, _*_, _≤_, _<_};
 ghost use lib.ListN.{length, getD};
 ghost use Rattle.sha256.specs.Service.{limit};
 ghost use Rattle.roster.specs.Roster.{replicas, rosterNumber};
-ghost use Rattle.assembly_copies.specs.Rows.{replicasMost, Placed};
+ghost use Rattle.roster.specs.Sizes.{replicasMost};
+ghost use Rattle.assembly_copies.specs.Rows.{Placed};
 ghost use Rattle.assembly_copies.specs.Sought.{Searched, CopiesFound};
 ghost use Rattle.assembly_copies.specs.Offers.{Lies, Alike, Unlike, Offered, Taken, isCopy};
 use assembly_items::ItemPlace;
 use assembly_items::ItemReading;
+use roster::REPLICAS_MOST;
 
 pub mod masks;
 pub mod places;
-
-// The most replicas of a roster: the places of a row.
-pub const REPLICAS_MOST: usize = 9;
 
 // A row of what is taken: candidate or commit index, the stamp, the votes or receipts. Where the last two
 // stand, and the numbers of a row.

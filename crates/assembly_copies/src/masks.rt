@@ -4,7 +4,8 @@ ghost use mathlib.Core.List.{List};
 ghost use Prim.Native.Nat.{ℕ, _≤_};
 ghost use lib.ListN.{length};
 ghost use Rattle.submission_encoding.specs.Copies.{signersOf};
-ghost use Rattle.assembly_copies.specs.Rows.{replicasMost, copiesAt};
+ghost use Rattle.roster.specs.Sizes.{replicasMost};
+ghost use Rattle.assembly_copies.specs.Rows.{copiesAt};
 
 // The signers of the first n places: bit k is a one where place k is not 0.
 pub fn mask_of(places: &[usize], n: usize) -> u16

@@ -4,10 +4,11 @@ ghost use mathlib.Core.List.{_∷_};
 ghost use Prim.Native.Nat.{_+_, _≤_};
 ghost use lib.ListN.{length, take};
 ghost use lib.Seq.{sets};
-ghost use Rattle.assembly_copies.specs.Rows.{replicasMost, takenSize};
+ghost use Rattle.roster.specs.Sizes.{replicasMost};
+ghost use Rattle.assembly_copies.specs.Rows.{takenSize};
 use super::PLACES_AT;
-use super::REPLICAS_MOST;
 use super::STAMP_AT;
+use roster::REPLICAS_MOST;
 
 // Writes a row of what is taken to a place: candidate or commit index, stamp, votes or receipts.
 pub fn put_row(table: &mut [usize], at: usize, first: usize, stamp: usize, places: &[usize])

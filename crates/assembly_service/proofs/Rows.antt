@@ -13,7 +13,8 @@ use Rattle.log_chain.specs.Log.{Form}
 use Rattle.log_chain.specs.Runs.{Run}
 use Rattle.assembly_commit.specs.declared.LogSizes.{LogSizes}
 use Rattle.assembly_commit.specs.Searched.{CommitFound, CommitRowHeld}
-use Rattle.assembly_copies.specs.Rows.{replicasMost, takenSize, copiesAt, leadIn, leadsIn, commitIn}
+use Rattle.roster.specs.Sizes.{replicasMost}
+use Rattle.assembly_copies.specs.Rows.{takenSize, copiesAt, leadIn, leadsIn, commitIn}
 
 -- what two lists begin with alike, after as many elements
 drop-alike : (t u : List ℕ) (a b : ℕ) → take (a + b) t ≡ take (a + b) u → take b (drop a t) ≡ take b (drop a u)

@@ -11,6 +11,7 @@ use lib.Seq.{length-take-le}
 use Rattle.words.specs.BigEndian.{be}
 use Rattle.words.specs.Over.{over}
 use Rattle.words.proofs.Over.{over-length, over-taken}
+use Rattle.words.proofs.FlatMap.{flatMap-one}
 use Rattle.roster.specs.Roster.{nameSize}
 use Rattle.log_chain.specs.Log.{withTerms, Record, lastTerm, pointer}
 use Rattle.log_chain.specs.Claim.{place}
@@ -19,7 +20,7 @@ use Rattle.log_chain.proofs.Pointers.{pointer-form}
 use Rattle.submission.specs.Validate.{leaderMost}
 use Rattle.assembly_terms.specs.Wanted.{voteHead, voteTail, stampHead, stampTail, voteEnd, stampEnd, votesWanted, stampsWanted, votesRoom, stampsRoom, VotesIn, StampsIn}
 use Rattle.assembly_terms.specs.Added.{EndsAdded}
-use Rattle.assembly_terms.proofs.Tables.{rows-more, rows-length, begins-more, lent-length}
+use Rattle.assembly_terms.proofs.Tables.{rows-length, begins-more, lent-length}
 use Rattle.assembly_terms.proofs.Wanted.{vote-end-size, stamp-end-size}
 
 pub place-fields : (w : ℕ) (log : List Record) {t i : ℕ} {p : List ℕ} → t ≡ lastTerm log → i ≡ length log → p ≡ pointer (withTerms w []) log
@@ -75,7 +76,7 @@ module _ (head n : ℕ) (f : Run → List ℕ) where
         let front = take head entry in
         let b = front ++ flatMap f done in
         let whole : b ++ f x ≡ front ++ flatMap f (done ++ (x ∷ [])) =
-        append-assoc front (flatMap f done) (f x) ∙ ap (λ (l : List ℕ). front ++ l) (sym (rows-more f done x)) in
+        append-assoc front (flatMap f done) (f x) ∙ ap (λ (l : List ℕ). front ++ l) (sym (flatMap-one f done x)) in
         let long : length b ≡ at =
         length-append front (flatMap f done) ∙ rw (length-take-le head entry (omega (arith, filled .size, filled .room)), rows-length f n each done) (sym (filled .next)) in
         let count : length (done ++ (x ∷ [])) ≡ suc (length done) = omega (arith, length-append done (x ∷ [])) in

@@ -1,7 +1,7 @@
 -- Lists of one length joined, by their place; and a table that begins with some bytes: its parts, and the table after more bytes or others.
 -- Assumes nothing.
 use mathlib.Core.Path.{_≡_, refl, sym, ap, _∙_}
-use mathlib.Core.List.{List, [], _∷_, _++_, append-assoc, append-nil, flatMap}
+use mathlib.Core.List.{List, [], _∷_, _++_, append-assoc, flatMap}
 use Prim.Native.Nat.{ℕ, zero, suc, _+_, _-_, _*_, _≤_, _<_}
 use native.Mathlib.Nat.{mul-zero, mul-suc, mul-le-mul-left, add-comm}
 use native.Mathlib.Omega.{arith}
@@ -12,11 +12,6 @@ use Rattle.words.specs.Over.{over}
 use Rattle.words.proofs.Over.{over-length, over-taken, over-next, over-first, Begun, begun-first, rest-put}
 
 -- ---- lists of one length, joined
-
-pub rows-more : {A : Type 0} (f : A → List ℕ) (xs : List A) (x : A) → flatMap f (xs ++ (x ∷ [])) ≡ flatMap f xs ++ f x
-unfolding flatMap
-rows-more f [] x = append-nil (f x)
-rows-more f (y ∷ xs) x = rw (rows-more f xs x) (sym (append-assoc (f y) (flatMap f xs) (f x)))
 
 module _ {A : Type 0} (f : A → List ℕ) (n : ℕ) (each : (x : A) → length (f x) ≡ n) where
   pub rows-length : (xs : List A) → length (flatMap f xs) ≡ n * length xs

@@ -16,7 +16,8 @@ use Rattle.refusal.proofs.Laws.{look}
 use Rattle.log_chain.specs.Records.{recordSize}
 use Rattle.submission.specs.Validate.{recordMost, leaderMost}
 use Rattle.submission_encoding.specs.Copies.{signersOf, signatureOf}
-use Rattle.assembly_copies.specs.Rows.{replicasMost, takenSize, copyAt, copiesAt, rowAt}
+use Rattle.roster.specs.Sizes.{replicasMost}
+use Rattle.assembly_copies.specs.Rows.{takenSize, copyAt, copiesAt, rowAt}
 use Rattle.assembly_terms.specs.Wanted.{voteTail}
 use Rattle.assembly_writer.specs.declared.Plan.{Plan}
 use Rattle.assembly_writer.specs.Parts.{signatureAt, signedAt, certificateIn, commitPart, voteEndAt, certificatePart, leadersPart, stampsPart, signedMost, commitMost, PlacesHeld, RowsInside}

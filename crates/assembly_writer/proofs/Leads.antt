@@ -2,13 +2,13 @@
 -- Assumes nothing.
 use mathlib.Core.Path.{_≡_, refl, sym, ap, _∙_}
 use mathlib.Core.Bool.{true, false}
-use mathlib.Core.List.{List, [], _∷_, _++_, map, flatMap}
+use mathlib.Core.List.{List, [], _∷_, map, flatMap}
 use mathlib.Core.Logic.{⊎-elim}
 use Prim.Native.Nat.{ℕ, zero, suc, _+_, _*_, _<_}
 use native.Mathlib.Omega.{arith}
 use lib.Dec.{eqb}
-use lib.ListN.{length, getD, take, drop}
-use lib.Seq.{drop-drop}
+use lib.ListN.{length, getD, drop}
+use Rattle.words.proofs.FlatMap.{flatMap-map}
 use Rattle.refusal.proofs.Laws.{look}
 use Rattle.roster.specs.Roster.{nameSize}
 use Rattle.log_chain.specs.Log.{Form, withTerms}
@@ -18,7 +18,7 @@ use Rattle.submission_encoding.specs.Encoding.{certificateBytes, leadersBytes, 
 use Rattle.assembly_copies.specs.Rows.{takenSize, leadIn, leadsIn, commitIn, rowAt}
 use Rattle.assembly_terms.specs.Wanted.{voteEnd, VotesIn}
 use Rattle.assembly_terms.proofs.Wanted.{vote-end, ballot-end}
-use Rattle.assembly_copies.proofs.Taken.{row-cell}
+use Rattle.assembly_copies.proofs.Taken.{row-later, row-cell}
 use Rattle.assembly_writer.specs.declared.Plan.{Plan}
 use Rattle.assembly_writer.specs.Parts.{joined, signatureAt, certificateIn, commitPart, certificatePart, leadersPart, stampsPart, PlacesHeld, RowsInside}
 use Rattle.assembly_writer.proofs.Joined.{joined-same, joined-list}
@@ -26,11 +26,6 @@ use Rattle.assembly_writer.proofs.Signed.{signed-part}
 use Rattle.assembly_writer.proofs.Rows.{row-places}
 
 -- ---- one row
-
-row-later : (taken : List ℕ) (i : ℕ) → rowAt (drop takenSize taken) i ≡ rowAt taken (suc i)
-row-later taken i =
-    let next : takenSize + takenSize * i ≡ takenSize * suc i = omega arith in
-    ap (take takenSize) (drop-drop (takenSize * i) takenSize taken ∙ ap (λ (k : ℕ). drop k taken) next)
 
 module _ (S : ℕ) (itemBytes : List ℕ) (form : Form) (n : ℕ) where
   pub leads-count : (taken : List ℕ) (rs : List Run) → length (leadsIn S itemBytes form n taken rs) ≡ length rs
@@ -61,11 +56,6 @@ module _ (S : ℕ) (itemBytes : List ℕ) (form : Form) (n : ℕ) where
       (look (eqb (getD row 0 0) 0))
 
 -- ---- all rows
-
-map-joined : {A B : Type 0} (f : B → List ℕ) (g : A → B) (xs : List A) → flatMap f (map g xs) ≡ flatMap (λ x. f (g x)) xs
-unfolding flatMap
-map-joined f g [] = refl
-map-joined f g (x ∷ xs) = ap (λ z. f (g x) ++ z) (map-joined f g xs)
 
 module _ (itemBytes votes taken name : List ℕ) (p : Plan) (held : RowsInside itemBytes p taken) (named : length name ≡ nameSize)
     (rs : List Run) (each : p .leaders ≡ length rs) where
@@ -100,7 +90,7 @@ module _ (itemBytes votes taken name : List ℕ) (p : Plan) (held : RowsInside i
       → leadersBytes (p .size) form (map (λ l. l .certificate) taken-leads) ≡ leadersPart itemBytes p votes taken
   unfolding leadersBytes
   leaders-bytes tabled =
-      map-joined (certificateBytes (p .size) form) (λ (l : Lead). l .certificate) taken-leads
+      flatMap-map (certificateBytes (p .size) form) (λ (l : Lead). l .certificate) taken-leads
       ∙ leads-joined (λ (l : Lead). certificateBytes (p .size) form (l .certificate)) (certificatePart itemBytes p votes taken) (certificate-at tabled)
 
   stamp-at : (i : ℕ) → i < p .leaders
@@ -111,5 +101,5 @@ module _ (itemBytes votes taken name : List ℕ) (p : Plan) (held : RowsInside i
   pub stamps-bytes : stampsBytes (map (λ l. l .stamp) taken-leads) ≡ stampsPart itemBytes p taken
   unfolding stampsBytes
   stamps-bytes =
-      map-joined (λ (g : List ℕ). g) (λ (l : Lead). l .stamp) taken-leads
+      flatMap-map (λ (g : List ℕ). g) (λ (l : Lead). l .stamp) taken-leads
       ∙ leads-joined (λ (l : Lead). l .stamp) (λ t. signatureAt (p .size) itemBytes (getD taken (takenSize * t + 1) 0)) stamp-at

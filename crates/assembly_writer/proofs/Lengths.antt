@@ -8,9 +8,9 @@ use native.Mathlib.Omega.{arith}
 use lib.Count.{ones}
 use lib.ListN.{length, getD, drop, length-append, length-drop}
 use lib.Seq.{length-take-le}
-use Rattle.roster.specs.Sizes.{signatureMost}
+use Rattle.roster.specs.Sizes.{replicasMost, signatureMost}
 use Rattle.submission_encoding.specs.Copies.{signersOf}
-use Rattle.assembly_copies.specs.Rows.{replicasMost, takenSize, copiesAt, rowAt}
+use Rattle.assembly_copies.specs.Rows.{takenSize, copiesAt, rowAt}
 use Rattle.assembly_terms.specs.Wanted.{voteHead, voteTail}
 use Rattle.assembly_copies.proofs.Taken.{row-cell}
 use Rattle.assembly_writer.specs.declared.Plan.{Plan}

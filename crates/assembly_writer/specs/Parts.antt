@@ -8,10 +8,10 @@ use lib.Dec.{eqb}
 use lib.ListN.{length, getD, take, drop}
 use Rattle.words.specs.BigEndian.{be}
 use Rattle.words.specs.Widths.{widthMost}
-use Rattle.roster.specs.Sizes.{signatureMost}
+use Rattle.roster.specs.Sizes.{replicasMost, signatureMost}
 use Rattle.submission.specs.Validate.{leaderMost}
 use Rattle.submission_encoding.specs.Copies.{signersOf, signatureOf}
-use Rattle.assembly_copies.specs.Rows.{replicasMost, takenSize, copyAt, copiesAt, Placed, rowAt}
+use Rattle.assembly_copies.specs.Rows.{takenSize, copyAt, copiesAt, Placed, rowAt}
 use Rattle.assembly_terms.specs.Wanted.{voteHead, voteTail}
 use Rattle.assembly_writer.specs.declared.Plan.{Plan}
 use Rattle.assembly_writer.specs.declared.PartSizes.{PartSizes}

@@ -20,6 +20,9 @@ const PATH_AT: usize = lm_format::ONE_TIME_AT
     + 32 * (lm_digits::BYTE_CHAINS + 1)
     + lm_format::TYPE_SIZE;
 
+// The most replicas of a roster (document 01, "The roster").
+pub const REPLICAS_MOST: usize = 9;
+
 // The bits of a mask.
 pub const MASK_BITS: usize = 16;
 

@@ -7,10 +7,8 @@ ghost use Rattle.roster.specs.Roster as paper;
 
 mod keys;
 
-// The replicas that a roster may have (document 01, "What stops an audit", number 2).
+// The fewest replicas that a roster may have (document 01, "What stops an audit", number 2).
 const REPLICAS_MIN: usize = 3;
-
-const REPLICAS_MAX: usize = 9;
 
 // The types that a key may have (document 01, "What stops an audit", number 3).
 const ONE_TIME: u32 = 4;
@@ -30,7 +28,7 @@ fn sized(roster: &[u8]) -> bool
     if n < REPLICAS_MIN {
         return false;
     }
-    if REPLICAS_MAX < n {
+    if roster::REPLICAS_MOST < n {
         return false;
     }
     roster.len() == roster::HEAD_SIZE + lm_format::KEY_SIZE * n

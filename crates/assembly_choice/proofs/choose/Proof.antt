@@ -6,7 +6,8 @@ use native.Mathlib.Omega.{arith}
 use borrow.Author.Needs.{needs}
 use lib.ListN.{length, length-replicate}
 use Rattle.roster.specs.Roster.{replicas}
-use Rattle.assembly_copies.specs.Rows.{replicasMost, takenSize}
+use Rattle.roster.specs.Sizes.{replicasMost}
+use Rattle.assembly_copies.specs.Rows.{takenSize}
 use Rattle.assembly_choice.proofs.Tried.{tried-none, held-none}
 use Rattle.assembly_choice.proofs.Chosen.{leaders-chosen}
 use Rattle.assembly_choice.proofs.choose.Statement.{statement}

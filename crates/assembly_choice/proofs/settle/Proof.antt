@@ -7,7 +7,7 @@ use borrow.Author.Needs.{needs}
 use lib.ListN.{length, drop, length-drop}
 use lib.Seq.{length-sets}
 use Rattle.words.proofs.Laws.{part-end}
-use Rattle.assembly_copies.specs.Rows.{replicasMost}
+use Rattle.roster.specs.Sizes.{replicasMost}
 use Rattle.assembly_choice.specs.Settled.{Settled}
 use Rattle.assembly_choice.proofs.Settling.{Kept, settled-none, settled-put, settled-left}
 use Rattle.assembly_choice.proofs.settle.Statement.{statement}

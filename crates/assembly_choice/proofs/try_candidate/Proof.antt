@@ -6,7 +6,7 @@ use native.Mathlib.Omega.{arith}
 use lib.ListN.{length, length-replicate}
 use Rattle.roster.specs.Roster.{headSize, replicas}
 use Rattle.roster.proofs.Accepted.{sizes}
-use Rattle.assembly_copies.specs.Rows.{replicasMost}
+use Rattle.roster.specs.Sizes.{replicasMost}
 use Rattle.assembly_choice.proofs.Tried.{tried-next, held-next}
 use Rattle.assembly_choice.proofs.try_candidate.Statement.{statement}
 use Rattle.assembly_choice.proofs.try_candidate.Tie as tie

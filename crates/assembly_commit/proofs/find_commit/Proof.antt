@@ -16,7 +16,8 @@ use Rattle.log_checkpoints.specs.Checkpoints.{tableSize}
 use Rattle.submission_encoding.specs.Copies.{signersOf}
 use Rattle.assembly.specs.Items.{itemsOf}
 use Rattle.assembly.specs.Choice.{receiptsFor, commitTo}
-use Rattle.assembly_copies.specs.Rows.{replicasMost, commitIn}
+use Rattle.roster.specs.Sizes.{replicasMost}
+use Rattle.assembly_copies.specs.Rows.{commitIn}
 use Rattle.assembly_commit.specs.Searched.{ReceiptsFound, CommitFound}
 use Rattle.assembly_commit.proofs.Commits.{enough, commit-lower, commit-here, commit-none, row-made, row-of, row-none, row-held, row-empty}
 use Rattle.assembly_commit.proofs.find_commit.Statement.{statement}
