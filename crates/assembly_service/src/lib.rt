@@ -53,7 +53,7 @@ fn log_counted(log: &[u8], width: usize) -> bool
     log_distinct::terms_at_most(log, width, records, LEADER_MOST)
 }
 
-// 8, 11 and 19.
+// The first of checks 8, 11 and 19 that is not met, or 0.
 fn input_number(log: &[u8], items: &[u8], width: usize, size: usize) -> u32
     requires { ⌜ (width ≤ widthMost) × (size ≤ signatureMost) ⌝ }
     ensures { λ r. ⌜ r ≡ paper.inputNumber width size (now (log .entry)) (now (items .entry)) ⌝ }
