@@ -1,11 +1,12 @@
-//! Document 01, The report: the fork, the charges by rules 1 to 4, and the report's bytes.
+//! Document 01, The report: the fork, the charges by rules 1 to 4, and the report's bytes. Rule 1
+//! is that of document 02, W4.
 
 use crate::bytes::{u16_at, u32_at};
 use crate::numbers::{
     ACCEPTED, SHORT_REPORT, STALE_VOTE, STALE_VOTE_EXCHANGED, TWO_STAMPS, TWO_VOTES,
 };
 use crate::roster::{replicas_of, Roster, MOST};
-use crate::statement::Record;
+use crate::statement::{vote_fields, Record};
 use crate::submission::{LeaderCertificate, Run, Submission};
 use crate::verdicts::Verdicts;
 
@@ -144,9 +145,11 @@ fn rows(first: &Submission, second: &Submission) -> [Option<Charge>; MOST] {
     rows
 }
 
-/// Rule 1: signers of both certificates, of one term with different candidates.
+/// Rule 1: signers of both certificates, whose votes are of one term and differ. Votes are compared
+/// by the bytes that are signed, so that candidate, last term, last index and last pointer all
+/// count.
 fn rule_1(a: &LeaderCertificate, b: &LeaderCertificate) -> Vec<(u16, Charge)> {
-    if a.vote.term != b.vote.term || a.vote.candidate == b.vote.candidate {
+    if a.vote.term != b.vote.term || vote_fields(&a.vote) == vote_fields(&b.vote) {
         return Vec::new();
     }
     let charge = Charge { rule: TWO_VOTES, term: a.vote.term };
@@ -197,6 +200,53 @@ fn both(a: u16, b: u16) -> Vec<u16> {
 #[cfg(test)]
 mod tests {
     use super::*;
+    use crate::statement::Vote;
+
+    const VOTE: Vote =
+        Vote { candidate: 2, term: 7, last_term: 5, last_index: 6, last_pointer: [9; 32] };
+
+    /// Whom rule 1 charges, for two votes and their signers.
+    fn charged(a: Vote, a_signers: u16, b: Vote, b_signers: u16) -> Vec<(u16, Charge)> {
+        let certificate = |vote, signers| LeaderCertificate { vote, signers, signatures: vec![] };
+        rule_1(&certificate(a, a_signers), &certificate(b, b_signers))
+    }
+
+    /// Document 02, W4: a vote of the same term that differs in one field only, whichever it is,
+    /// and in whichever byte of the pointer.
+    #[test]
+    fn two_requests() {
+        let mut others = vec![
+            Vote { candidate: 1, ..VOTE },
+            Vote { candidate: 2 + 256, ..VOTE },
+            Vote { last_term: 4, ..VOTE },
+            Vote { last_term: 5 + (1 << 24), ..VOTE },
+            Vote { last_index: 7, ..VOTE },
+            Vote { last_index: 6 + (1 << 16), ..VOTE },
+        ];
+        for at in 0..32 {
+            let mut vote = VOTE;
+            vote.last_pointer[at] ^= 1;
+            others.push(vote);
+        }
+        let charge = Charge { rule: 1, term: 7 };
+        for other in others {
+            let right = vec![(2, charge), (3, charge)];
+            assert_eq!(charged(VOTE, 0b0111, other, 0b1110), right, "{other:?}");
+            assert_eq!(charged(other, 0b0110, VOTE, 0b0111), right, "{other:?}");
+            assert_eq!(charged(VOTE, 0b0011, other, 0b1100), vec![], "no signer of both");
+        }
+    }
+
+    /// The same vote twice, by whomever, and votes of two terms, are no charge.
+    #[test]
+    fn one_request() {
+        assert_eq!(charged(VOTE, 0b111, VOTE, 0b111), vec![]);
+        assert_eq!(charged(VOTE, 0b011, VOTE, 0b110), vec![]);
+        for candidate in [1, 2] {
+            let later = Vote { candidate, term: 8, last_index: 7, ..VOTE };
+            assert_eq!(charged(VOTE, 0b111, later, 0b111), vec![]);
+        }
+    }
 
     /// Document 01, Bench figures: against (3, 7), (3, 6) is staler, (3, 7) and (4, 1) are not.
     #[test]

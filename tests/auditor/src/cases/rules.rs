@@ -14,9 +14,9 @@ impl Cases<'_> {
         for (name, (first, second, rest)) in [
             ("rule 1 in two terms", rule_1_twice(&three.clone())),
             ("rule 1 in a later term than rule 2", rule_1_later(&three.clone())),
-            ("rule 2 in two terms", rule_2_twice(&three.clone())),
-            ("rule 2 by a term alone", rule_2_by_term(&three.clone())),
-            ("rule 2, elected on two ends", rule_2_on_two_ends(&three.clone())),
+            ("rule 2 in two terms, rule 1 in the later", rule_2_twice(&three.clone())),
+            ("rules 1 and 2 by a term alone", rules_1_and_2_by_term(&three.clone())),
+            ("rules 1 and 2, elected on two ends", rules_1_and_2_on_two_ends(&three.clone())),
             ("rule 3 by one vote of three", rule_3_by_the_first(&three.clone())),
             ("rules 3 and 4", rules_3_and_4(&three.clone())),
             ("rule 4 in a lower term than rule 3", rule_4_lower(&three.clone())),
@@ -66,31 +66,35 @@ fn rule_1_later(signer: &Signer) -> Made {
     (first, second, "fork 0\nboard 1 rule 1 term 9\n")
 }
 
-/// The logs part at index 2, so term 1's stamps are right and those of terms 2 and 3 are not.
+/// The logs part at index 2, so term 1's stamps are right and those of terms 2 and 3 are not. Term
+/// 2 has one request, elected on (1, 1) of both; term 3 has two, on the (2, 2) of the one and of
+/// the other, and replica 1 signed both. Rule 1 is lower than rule 2, though its term is not.
 fn rule_2_twice(signer: &Signer) -> Made {
     let first = log(&[(1, "a"), (2, "b"), (3, "c")]);
     let second = log(&[(1, "a"), (2, "x"), (3, "c")]);
     let first = signer.submission(&first, &[(1, 0b011); 3], None);
     let second = signer.submission(&second, &[(1, 0b101); 3], None);
-    (first, second, "fork 0\nboard 1 rule 2 term 2\n")
+    (first, second, "fork 0\nboard 1 rule 1 term 3\n")
 }
 
-/// The same payloads, but record 1 has another term.
-fn rule_2_by_term(signer: &Signer) -> Made {
+/// The same payloads, but record 1 has another term: replica 1, elected in term 4 on (1, 1) and on
+/// (2, 1), voted for two requests of its own and stamped two logs.
+fn rules_1_and_2_by_term(signer: &Signer) -> Made {
     let (first, second) = (log(&[(1, "a"), (4, "b")]), log(&[(2, "a"), (4, "b")]));
     let first = signer.submission(&first, &[(2, 0b110), (1, 0b011)], Some((1, 0b110)));
     let second = signer.submission(&second, &[(3, 0b101), (1, 0b101)], Some((1, 0b101)));
     // Replica 3's receipt (1, 1) and its vote in term 2 on (0, 0) break rule 3; replica 1's receipt
-    // (2, 1) and its vote in term 4 on (1, 1) would break rule 4, but rule 2 is lower.
-    (first, second, "fork 1\nboard 1 rule 2 term 4\nboard 3 rule 3 term 2\n")
+    // (2, 1) and its vote in term 4 on (1, 1) would break rule 4, but rules 1 and 2 are lower.
+    (first, second, "fork 1\nboard 1 rule 1 term 4\nboard 3 rule 3 term 2\n")
 }
 
-/// One candidate of one term, elected on (1, 1) and on an empty log: no rule 1.
-fn rule_2_on_two_ends(signer: &Signer) -> Made {
+/// One candidate of one term, elected by the same two on (1, 1) and on an empty log: two requests,
+/// and both who signed them broke rule 1. The candidate's stamps break rule 2 too, which is higher.
+fn rules_1_and_2_on_two_ends(signer: &Signer) -> Made {
     let (first, second) = (log(&[(1, "a"), (3, "b")]), log(&[(3, "b")]));
     let first = signer.submission(&first, &[(2, 0b110), (1, 0b011)], None);
     let second = signer.submission(&second, &[(1, 0b011)], None);
-    (first, second, "fork 0\nboard 1 rule 2 term 3\n")
+    (first, second, "fork 0\nboard 1 rule 1 term 3\nboard 2 rule 1 term 3\n")
 }
 
 /// After a receipt (2, 3), the vote in term 3 on (1, 1) breaks the rule; those in terms 4 and 5 on

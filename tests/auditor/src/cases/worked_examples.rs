@@ -104,11 +104,19 @@ impl Cases<'_> {
         // The logs part only after the lower stamp; before it; and in a term's number alone.
         let long = log(&[(1, "a"), (1, "b"), (2, "c")]);
         let other = log(&[(1, "a"), (2, "b"), (2, "c")]);
+        // Replicas 1 and 2 elect the leader of term 2 on (1, 2) and on (1, 1).
+        let elected = signer.clone();
         let leaders = [(1, 0b011), (1, 0b011)];
-        let long = signer.submission(&long, &leaders, None);
-        let other = signer.submission(&other, &leaders, None);
-        let rest = "fork 0\nboard 1 rule 2 term 2\n";
-        self.lines("parted after the lower stamp of term 1", &signer, &long, &other, rest);
+        let a = elected.submission(&long, &leaders, None);
+        let b = elected.submission(&other, &leaders, None);
+        let rest = "fork 0\nboard 1 rule 1 term 2\nboard 2 rule 1 term 2\n";
+        self.lines("parted after the lower stamp of term 1", &signer, &a, &b, rest);
+        // Others lead term 2, and of its voters only replica 3 is in both: nothing is left for
+        // which replica 1, who stamped in term 1, could be charged.
+        let a = signer.submission(&long, &[(1, 0b011), (2, 0b110)], None);
+        let b = signer.submission(&other, &[(1, 0b011), (3, 0b101)], None);
+        let rest = "fork 0\nboard 3 rule 1 term 2\n";
+        self.lines("the same, led by others after term 1", &signer, &a, &b, rest);
         // One replica of two quorums voted twice; the rest of both did nothing wrong.
         for n in 3..=9u16 {
             let signer = self.signer(n as usize, 5);

@@ -1,5 +1,6 @@
-//! Worked examples of document 01's board rules: acts on many states, allowed or refused by a
-//! replica that does not cheat, and the file of the proof language that lists them.
+//! Worked examples of document 01's board rules, with document 02's W4: acts on many states,
+//! allowed or refused by a replica that does not cheat, and the file of the proof language that
+//! lists them.
 
 mod drawn;
 mod families;

@@ -1,5 +1,5 @@
-//! A replica (document 01's board): its state, and its acts by the board rules. A cheat leaves
-//! out some of the rules.
+//! A replica (document 01's board): its state, and its acts by the board rules, of which that on
+//! votes is document 02's, W4. A cheat leaves out some of the rules.
 
 use crate::audit::is_staler;
 use crate::statement::{pointers, Position, Record, Vote};
@@ -7,7 +7,7 @@ use crate::statement::{pointers, Position, Record, Vote};
 /// The rules that a replica does not keep.
 #[derive(Clone, Copy, Debug, Default, PartialEq)]
 pub struct Cheats {
-    /// It votes for a second candidate in one term.
+    /// It votes for a second request in one term, be it of the same candidate.
     pub votes_twice: bool,
     /// It votes for a candidate whose log is staler than its own.
     pub votes_for_staler: bool,
@@ -34,6 +34,7 @@ pub enum Act {
 pub struct Replica {
     pub number: u16,
     pub term: u32,
+    /// The last vote, with all that its request says.
     pub last_vote: Option<Vote>,
     /// The last stamp's term.
     pub last_stamp: Option<u32>,
@@ -93,11 +94,9 @@ impl Replica {
         true
     }
 
-    /// Votes, if it may.
+    /// Votes, if it may: in one term again only for the very same request.
     pub fn vote(&mut self, vote: &Vote, n: usize) -> bool {
-        let twice = self
-            .last_vote
-            .is_some_and(|last| last.term == vote.term && last.candidate != vote.candidate);
+        let twice = self.last_vote.is_some_and(|last| last.term == vote.term && last != *vote);
         if vote.term < self.term
             || !(1..=n).contains(&(vote.candidate as usize))
             || (twice && !self.cheats.votes_twice)
@@ -212,9 +211,23 @@ mod tests {
         let mut replica = in_term_3();
         assert!(replica.vote(&vote(2, 5, (3, 2)), 3) && replica.term == 5);
         assert!(replica.vote(&vote(2, 5, (3, 2)), 3), "the same vote again");
-        assert!(!replica.vote(&vote(3, 5, (3, 2)), 3), "a second candidate");
+        let same = vote(2, 5, (3, 2));
+        let others = [
+            vote(3, 5, (3, 2)),
+            vote(2, 5, (4, 2)),
+            vote(2, 5, (3, 3)),
+            Vote { last_pointer: [1; 32], ..same },
+        ];
+        for other in &others {
+            assert!(!replica.vote(other, 3) && replica.last_vote == Some(same), "{other:?}");
+        }
+        assert!(replica.vote(&same, 3), "the same vote, after others were refused");
         replica.cheats.votes_twice = true;
-        assert!(replica.vote(&vote(3, 5, (3, 2)), 3));
+        for other in &others {
+            assert!(replica.vote(other, 3) && replica.last_vote == Some(*other), "a cheat");
+        }
+        replica.cheats.votes_twice = false;
+        assert!(replica.vote(&vote(1, 6, (9, 1)), 3), "another request, in a later term");
     }
 
     /// Each rule on taking a run.

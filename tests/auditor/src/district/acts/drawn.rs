@@ -43,17 +43,20 @@ pub fn raise(_: usize, state: &State, random: &mut Random) -> Act {
     Act::Raise(near(state.term, random))
 }
 
-/// More often than not for the candidate of the last vote, if there was one.
+/// More often than not for the candidate of the last vote, if there was one; and now and then for
+/// its very request, in this term or another.
 pub fn vote(n: usize, state: &State, random: &mut Random) -> Act {
     let (last_term, last_index) = state.replica().end();
     let drawn = random.below(n + 2) as u16;
+    let term = near(state.term, random);
     let candidate = match state.last_vote {
+        Some(last) if random.below(3) == 0 => return Act::Vote(Vote { term, ..last }),
         Some(last) if random.below(3) > 0 => last.candidate,
         _ => drawn,
     };
     Act::Vote(Vote {
         candidate,
-        term: near(state.term, random),
+        term,
         last_term: near(last_term, random),
         last_index: near(last_index, random),
         last_pointer: digest(random),

@@ -32,7 +32,7 @@ fn votes() -> Group {
     let mut group = Group::new("votes", "votes: terms, candidates, second votes, ends of logs");
     let start = State::default();
     let not_yet = state(4, None, None, &[1, 3, 3]);
-    let in_this_term = state(6, Some(ballot(3, 6, (2, 2))), Some(5), &[2, 2, 5]);
+    let in_this_term = state(6, Some(ballot(3, 6, (5, 3))), Some(5), &[2, 2, 5]);
     let earlier = state(TOP - 1, Some(ballot(4, 2, (1, 1))), None, &[1, TOP - 1]);
     for (n, state) in [(3, &start), (5, &not_yet), (8, &in_this_term), (4, &earlier)] {
         vote_terms(&mut group, n, state);
@@ -42,6 +42,7 @@ fn votes() -> Group {
     }
     for (n, state) in [(3, &start), (6, &not_yet)] {
         second_votes(&mut group, n, state);
+        first_votes(&mut group, n, state);
     }
     for (n, state) in [(7, &not_yet), (8, &in_this_term), (4, &earlier)] {
         vote_ends(&mut group, n, state);
@@ -65,23 +66,57 @@ fn vote_candidates(group: &mut Group, n: usize, state: &State) {
     group.on(n, state, candidates.map(vote));
 }
 
-/// After a vote for 2 in this term: for 3, for 2 again on another log, for 3 in the next term; and
-/// for 3 in this term after a vote for 2 in the one before.
+/// After a vote in this term: the very same again; votes that differ from it in one field, lower
+/// and higher, for each of the four that a request has; and one that differs in all four. In the
+/// next term the same request and that other one.
 fn second_votes(group: &mut Group, n: usize, state: &State) {
-    let (term, end) = (state.term, end(state));
-    let voted = |in_term| State { last_vote: Some(ballot(2, in_term, end)), ..state.clone() };
-    let vote = |candidate, term, end| Act::Vote(ballot(candidate, term, end));
-    let again = (end.0, end.1 + 1);
-    group.on(n, &voted(term), [vote(3, term, end), vote(2, term, again), vote(3, term + 1, end)]);
-    if term > 0 {
-        group.on(n, &voted(term - 1), [vote(3, term, end)]);
+    let (last_term, last_index) = end(state);
+    let voted = Vote { last_pointer: digest(50), ..ballot(2, state.term, (last_term + 1, 9)) };
+    assert!(last_index < 8, "a lower index than the vote's is no staler");
+    let state = State { last_vote: Some(voted), ..state.clone() };
+    for term in [state.term, state.term + 1] {
+        let same = Vote { term, ..voted };
+        let all = Vote { last_pointer: digest(52), ..ballot(3, term, (last_term + 2, 10)) };
+        group.on(n, &state, [same, all].map(Act::Vote));
+    }
+    group.on(n, &state, one_field_other(voted).map(Act::Vote));
+}
+
+/// The vote with one field of its request lower by one, and higher, each of the four in turn.
+fn one_field_other(vote: Vote) -> [Vote; 8] {
+    let Vote { candidate, last_term, last_index, last_pointer, .. } = vote;
+    let byte = last_pointer[0];
+    [
+        Vote { candidate: candidate - 1, ..vote },
+        Vote { candidate: candidate + 1, ..vote },
+        Vote { last_term: last_term - 1, ..vote },
+        Vote { last_term: last_term + 1, ..vote },
+        Vote { last_index: last_index - 1, ..vote },
+        Vote { last_index: last_index + 1, ..vote },
+        Vote { last_pointer: digest(byte - 1), ..vote },
+        Vote { last_pointer: digest(byte + 1), ..vote },
+    ]
+}
+
+/// In this term after a vote in the one before: for the same request, for another of the same
+/// candidate, and for another candidate.
+fn first_votes(group: &mut Group, n: usize, state: &State) {
+    if state.term > 0 {
+        let (term, (last_term, last_index)) = (state.term, end(state));
+        let last = Some(ballot(2, term - 1, (last_term, last_index)));
+        let state = State { last_vote: last, ..state.clone() };
+        let vote = |candidate, end| Act::Vote(ballot(candidate, term, end));
+        let (same, longer) = ((last_term, last_index), (last_term, last_index + 1));
+        group.on(n, &state, [vote(2, same), vote(2, longer), vote(3, same)]);
     }
 }
 
-/// Ends of a log that are staler and fresher, by index and by term.
+/// Ends of a log that are staler and fresher, by index and by term, in a term without a vote so
+/// far.
 fn vote_ends(group: &mut Group, n: usize, state: &State) {
     let (term, index) = end(state);
     let candidate = state.last_vote.map_or(2, |last| last.candidate);
+    let vote_term = state.last_vote.map_or(state.term, |last| state.term.max(last.term + 1));
     let ends = [
         (term, index - 1),
         (term, index + 1),
@@ -90,16 +125,18 @@ fn vote_ends(group: &mut Group, n: usize, state: &State) {
         // Above the vote's own term, which no rule forbids.
         (TOP, 1),
     ];
-    let vote = |end| Act::Vote(ballot(candidate, state.term, end));
+    let vote = |end| Act::Vote(ballot(candidate, vote_term, end));
     group.on(n, state, ends.map(vote));
 }
 
 /// After a stamp, in the highest term, and on states that no acts lead to.
 fn odd_votes(group: &mut Group) {
     let vote = |candidate, term, end| Act::Vote(ballot(candidate, term, end));
-    // After a stamp in this term.
+    // After a stamp in this term. The candidate of the last vote may not ask again with the log
+    // that it has now; and the last vote itself is for a log that is staler by now.
     let stamped = state(3, Some(ballot(1, 3, (1, 1))), Some(3), &[1, 3]);
     group.on(9, &stamped, [vote(9, 4, (3, 1)), vote(9, 4, (3, 2)), vote(1, 3, (3, 2))]);
+    group.on(9, &stamped, [vote(1, 3, (1, 1))]);
     // In the highest term.
     let top = state(TOP, None, None, &[TOP]);
     group.on(6, &top, [vote(6, TOP, (TOP, 0)), vote(6, TOP, (TOP, 1)), vote(6, TOP, (TOP, TOP))]);

@@ -23,7 +23,10 @@ fn state_of(length: usize, older: usize, turn: usize) -> State {
     let terms: Vec<u32> = (0..length).map(|i| if i < older { 2 } else { TERM }).collect();
     let vote = [None, Some(TERM), Some(TERM - 1)][(length + 2 * turn) % 3];
     let stamp = [None, Some(TERM), Some(TERM - 1)][(length + turn) % 3];
-    state(TERM, vote.map(|term| ballot(2, term, (2, 1))), stamp, &terms)
+    let state = state(TERM, None, stamp, &terms);
+    // A vote in this term is for the log's end, so that the same may be given again.
+    let on = |term| if term == TERM { end(&state) } else { (2, 1) };
+    State { last_vote: vote.map(|term| ballot(2, term, on(term))), ..state }
 }
 
 /// For each group, in the order of the file, what a replica may do on such a state, and receipts

@@ -4,6 +4,14 @@
 use super::*;
 use std::mem::discriminant;
 
+/// The clause of document 02, W4.
+const TWO_REQUESTS: &str = "two requests in one term";
+
+/// What a vote is for, but for its term: the candidate, and the end of the candidate's log.
+fn request(vote: &Vote) -> (u16, (u32, u32), Vec<u8>) {
+    (vote.candidate, (vote.last_term, vote.last_index), vote.last_pointer.to_vec())
+}
+
 /// The clauses of document 01's board rules that speak of the example's kind of act, and whether
 /// the act breaks them: said anew, in other words than the replica's.
 fn clauses(example: &Example) -> Vec<(&'static str, bool)> {
@@ -13,12 +21,12 @@ fn clauses(example: &Example) -> Vec<(&'static str, bool)> {
     match act {
         Act::Raise(term) => vec![("the term falls", *term < own)],
         Act::Vote(vote) => {
-            let other = |last: Vote| last.term == vote.term && last.candidate != vote.candidate;
+            let other = |last: Vote| last.term == vote.term && request(&last) != request(vote);
             vec![
                 ("a vote in a lower term", vote.term < own),
                 ("a candidate below 1", vote.candidate < 1),
                 ("a candidate above n", vote.candidate as usize > *n),
-                ("two candidates in one term", state.last_vote.is_some_and(other)),
+                (TWO_REQUESTS, state.last_vote.is_some_and(other)),
                 ("a staler log", (vote.last_term, vote.last_index) < end(&state.log)),
             ]
         }
@@ -119,6 +127,47 @@ fn clauses_broken_alone() {
             examples.iter().any(|other| other.after.is_some() && beside(example, other))
         });
         assert!(found, "{clause}");
+    }
+}
+
+/// For each of the four fields of a request, lower and higher: a vote in the last vote's term that
+/// differs from it in that field alone is refused, and breaks no other clause; on the same state
+/// the very same vote is allowed, and in the next term one that differs in all four.
+#[test]
+fn one_field_of_a_request() {
+    let examples = all();
+    let fields = |vote: &Vote| {
+        let Vote { candidate, last_term, last_index, last_pointer, .. } = *vote;
+        [candidate.into(), last_term, last_index, last_pointer[0].into()]
+    };
+    let differ = |one: &Vote, other: &Vote| {
+        let (one, other) = (fields(one), fields(other));
+        [0, 1, 2, 3].map(|i| one[i] != other[i])
+    };
+    for n in [3, 6] {
+        for (field, higher) in (0..4).flat_map(|field| [(field, false), (field, true)]) {
+            let found = examples.iter().filter(|example| example.n == n).any(|example| {
+                let (Act::Vote(vote), Some(last)) = (&example.act, example.state.last_vote) else {
+                    return false;
+                };
+                let beside = |holds: &dyn Fn(&Vote) -> bool| {
+                    examples.iter().any(|other| {
+                        let Act::Vote(vote) = &other.act else { return false };
+                        let allowed = (other.n, &other.state) == (n, &example.state);
+                        allowed && other.after.is_some() && holds(vote)
+                    })
+                };
+                vote.term == last.term
+                    && differ(vote, &last) == [0, 1, 2, 3].map(|i| i == field)
+                    && (fields(vote)[field] > fields(&last)[field]) == higher
+                    && broken(example) == [TWO_REQUESTS]
+                    && beside(&|vote| *vote == last)
+                    && beside(&|vote| {
+                        vote.term == last.term + 1 && differ(vote, &last) == [true; 4]
+                    })
+            });
+            assert!(found, "n = {n}, field {field}, higher: {higher}");
+        }
     }
 }
 
@@ -225,7 +274,15 @@ fn by_hand() {
     let state = in_term_4;
     assert_eq!(after(Act::Raise(3)), None);
     assert_eq!(after(Act::Raise(5)), Some(State { term: 5, ..state() }));
+    // Another candidate, the same one on the log's end of now, and the same on another pointer.
     assert_eq!(after(Act::Vote(vote(3, 4, 4, 2))), None);
+    assert_eq!(after(Act::Vote(vote(2, 4, 4, 2))), None);
+    let fresh = State { last_vote: Some(vote(2, 4, 4, 2)), ..state() };
+    let again = |vote| Example::new(3, fresh.clone(), Act::Vote(vote)).after;
+    assert_eq!(again(vote(2, 4, 4, 2)), Some(fresh.clone()));
+    assert_eq!(again(Vote { last_pointer: [1; 32], ..vote(2, 4, 4, 2) }), None);
+    // The last vote again, whose log is staler by now.
+    assert_eq!(after(Act::Vote(vote(2, 4, 3, 1))), None);
     assert_eq!(after(Act::Vote(vote(3, 5, 4, 1))), None);
     let next = vote(3, 5, 4, 2);
     assert_eq!(after(Act::Vote(next)), Some(State { term: 5, last_vote: Some(next), ..state() }));
