@@ -12,7 +12,11 @@ pub struct Rule {
 
 /// All rules, from 1 on.
 pub const RULES: &[Rule] = &[
-    Rule { rule: 1, meaning: "Board {board} voted for two candidates in term {term}." },
+    Rule {
+        rule: 1,
+        meaning: "Board {board} cast two different votes in term {term}: for two candidates, or \
+            for one candidate with another last term, last index or last pointer.",
+    },
     Rule {
         rule: 2,
         meaning: "Board {board} stamped two logs as leader of term {term}, and they differ in a \

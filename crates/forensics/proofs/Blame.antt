@@ -13,12 +13,14 @@ use borrow.Author.Tests.{eqb-true, eqb-false, eq-eqb, ne-eqb, ltb-true, ltb-fals
 use lib.Dec.{eqb, ltb, leb}
 use lib.ListN.{length, take}
 use lib.Seq.{length-take-le}
+use Rattle.refusal.specs.Checks.{all}
 use Rattle.refusal.proofs.Laws.{look}
 use Rattle.roster.specs.Masks.{signer}
 use Rattle.roster.proofs.Quorums.{quorums-share}
 use Rattle.log_chain.specs.Log.{Form, Record, lastTerm}
 use Rattle.log_chain.specs.Claim.{Ballot, Claim, stamped, received, voted}
 use Rattle.log_chain.specs.Ends.{staler}
+use Rattle.replica.specs.Replica.{sameRequest}
 use Rattle.replica.specs.Charges.{Charge, charge, clash, twoVotes, twoStamps, staleVote}
 use Rattle.log_chain.specs.Difference.{agree}
 use Rattle.log_chain.proofs.Order.{fresh}
@@ -67,7 +69,7 @@ unfolding clash twoStamps
 stamps-clash t l m e = charge-mem _ 2 t (rw (eq-eqb t t refl, e))
 
 votes-clash : (a b : Ballot) → a .term ≡ b .term → (a .candidate ≡ b .candidate → ⊥) → (c : Charge) × List·Memᴰ c (clash (voted a) (voted b))
-unfolding clash twoVotes
+unfolding clash twoVotes sameRequest all
 votes-clash a b e d = (record { rule = 1; term = a .term }, charge-mem _ 1 _ (rw (eq-eqb _ _ e, ne-eqb _ _ d)))
 
 -- rule 3 or 4

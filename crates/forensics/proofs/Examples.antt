@@ -7,9 +7,11 @@ use mathlib.Core.Option.{Option, some, none}
 use Prim.Native.Nat.{ℕ}
 use lib.ListN.{replicate}
 use Rattle.words.specs.BigEndian.{same}
+use Rattle.refusal.specs.Checks.{all}
 use Rattle.roster.specs.Masks.{replicasFrom, replicasOf}
 use Rattle.log_chain.specs.Log.{Record, termFrom, lastTerm}
 use Rattle.log_chain.specs.Ends.{staler}
+use Rattle.replica.specs.Replica.{sameRequest}
 use Rattle.replica.specs.Charges.{Charge, charge, clash, twoVotes, twoStamps, staleVote}
 use Rattle.log_chain.specs.Difference.{agree, sameRecord}
 use Rattle.log_chain.specs.Runs.{run, runsFrom, runs, runsAfter}
@@ -21,10 +23,13 @@ use Rattle.forensics.specs.Findings.{fork, says, charges, sooner, lower,
 of : ℕ → ℕ → Record
 of t x = record { term = t; digest = x ∷ replicate 31 0 }
 
--- a leader certificate: candidate, term, last term, last index, signers
+-- a leader certificate: last pointer, candidate, term, last term, last index, signers
+electedOn : List ℕ → ℕ → ℕ → ℕ → ℕ → ℕ → Certificate
+electedOn pointer candidate t u j mask =
+    record { ballot = record { candidate = candidate; term = t; lastTerm = u; lastIndex = j; lastPointer = pointer }; signers = mask; signatures = [] }
+
 elected : ℕ → ℕ → ℕ → ℕ → ℕ → Certificate
-elected candidate t u j mask =
-    record { ballot = record { candidate = candidate; term = t; lastTerm = u; lastIndex = j; lastPointer = [] }; signers = mask; signatures = [] }
+elected = electedOn []
 
 -- a log with its leaders, and the commit's index and signers
 with-commit : List Record → List Certificate → ℕ → ℕ → View
@@ -46,8 +51,8 @@ found i x y z = record { fork = i; rows = x ∷ y ∷ z ∷ replicate 6 none }
 -- one leader, two records of term 1: `fork 1`, `board 1 rule 2 term 1`
 one-leader : findings 0 (with-commit (of 1 1 ∷ []) (elected 1 1 0 0 0b011 ∷ []) 1 0b011) (with-commit (of 1 2 ∷ []) (elected 1 1 0 0 0b011 ∷ []) 1 0b101)
     ≡ found 1 (row 2 1) none none
-unfolding findings found row with-commit elected of fork committed committedBy differAt slots leads leadsOf runs runsAfter runsFrom run votesOf stampOf receiptsOf certified slot replicasOf
-    replicasFrom lastTerm termFrom flatMap rowsFrom charges says clash charge twoVotes twoStamps staleVote staler agree sameRecord same lowest lower sooner
+unfolding findings found row with-commit elected electedOn of fork committed committedBy differAt slots leads leadsOf runs runsAfter runsFrom run votesOf stampOf receiptsOf certified slot replicasOf
+    replicasFrom lastTerm termFrom flatMap rowsFrom charges says clash charge twoVotes sameRequest all twoStamps staleVote staler agree sameRecord same lowest lower sooner
 one-leader = refl
 
 first-log : View
@@ -59,8 +64,8 @@ second-log = with-commit (of 2 2 ∷ []) (elected 3 2 0 0 0b110 ∷ []) 1 0b110
 -- a leader elected on an empty log after a commit: `fork 1`, `board 2 rule 3 term 2`; exchanged, rule 4. Of the two quorums only replica 2
 -- signed both certificates, and nobody else is charged
 stale-leader : (findings 0 first-log second-log ≡ found 1 none (row 3 2) none) × (findings 0 second-log first-log ≡ found 1 none (row 4 2) none)
-unfolding findings found row first-log second-log with-commit elected of fork committed committedBy differAt slots leads leadsOf runs runsAfter runsFrom run votesOf stampOf receiptsOf certified
-    slot replicasOf replicasFrom lastTerm termFrom flatMap rowsFrom charges says clash charge twoVotes twoStamps staleVote staler agree sameRecord same lowest lower sooner
+unfolding findings found row first-log second-log with-commit elected electedOn of fork committed committedBy differAt slots leads leadsOf runs runsAfter runsFrom run votesOf stampOf receiptsOf certified
+    slot replicasOf replicasFrom lastTerm termFrom flatMap rowsFrom charges says clash charge twoVotes sameRequest all twoStamps staleVote staler agree sameRecord same lowest lower sooner
 stale-leader = (refl, refl)
 
 -- ---- faults that a bench would miss: nobody is charged
@@ -68,22 +73,22 @@ stale-leader = (refl, refl)
 -- a log that is a beginning of the other, so that the last stamps' pointers differ
 beginning : findings 0 (with-commit (of 1 1 ∷ []) (elected 1 1 0 0 0b011 ∷ []) 1 0b011) (with-commit (of 1 1 ∷ of 1 2 ∷ []) (elected 1 1 0 0 0b011 ∷ []) 2 0b011)
     ≡ found 0 none none none
-unfolding findings found with-commit elected of fork committed committedBy differAt slots leads leadsOf runs runsAfter runsFrom run votesOf stampOf receiptsOf certified slot replicasOf
-    replicasFrom lastTerm termFrom flatMap rowsFrom charges says clash charge twoVotes twoStamps staleVote staler agree sameRecord same lowest lower sooner
+unfolding findings found with-commit elected electedOn of fork committed committedBy differAt slots leads leadsOf runs runsAfter runsFrom run votesOf stampOf receiptsOf certified slot replicasOf
+    replicasFrom lastTerm termFrom flatMap rowsFrom charges says clash charge twoVotes sameRequest all twoStamps staleVote staler agree sameRecord same lowest lower sooner
 beginning = refl
 
 -- term before index: replica 2 gave a receipt for (1, 2) and voted on (2, 1), whose index is lower and whose term is higher, and is not charged. Replica
 -- 1 voted on the empty log after its receipt, and is
 term-first : findings 0 (with-commit (of 1 1 ∷ of 1 2 ∷ []) (elected 1 1 0 0 0b011 ∷ []) 2 0b011) (without (of 2 1 ∷ of 3 1 ∷ []) (elected 3 2 0 0 0b101 ∷ elected 3 3 2 1 0b110 ∷ []))
     ≡ found 0 (row 3 2) none none
-unfolding findings found row with-commit without elected of fork committed committedBy differAt slots leads leadsOf runs runsAfter runsFrom run votesOf stampOf receiptsOf certified slot replicasOf
-    replicasFrom lastTerm termFrom flatMap rowsFrom charges says clash charge twoVotes twoStamps staleVote staler agree sameRecord same lowest lower sooner
+unfolding findings found row with-commit without elected electedOn of fork committed committedBy differAt slots leads leadsOf runs runsAfter runsFrom run votesOf stampOf receiptsOf certified slot replicasOf
+    replicasFrom lastTerm termFrom flatMap rowsFrom charges says clash charge twoVotes sameRequest all twoStamps staleVote staler agree sameRecord same lowest lower sooner
 term-first = refl
 
 -- one leader's stamps in two different terms, on different logs
 two-terms : findings 0 (without (of 1 1 ∷ []) (elected 1 1 0 0 0b011 ∷ [])) (without (of 2 2 ∷ []) (elected 1 2 0 0 0b011 ∷ [])) ≡ found 0 none none none
-unfolding findings found without elected of fork committed committedBy differAt slots leads leadsOf runs runsAfter runsFrom run votesOf stampOf receiptsOf certified slot replicasOf
-    replicasFrom lastTerm termFrom flatMap rowsFrom charges says clash charge twoVotes twoStamps staleVote staler agree sameRecord same lowest lower sooner
+unfolding findings found without elected electedOn of fork committed committedBy differAt slots leads leadsOf runs runsAfter runsFrom run votesOf stampOf receiptsOf certified slot replicasOf
+    replicasFrom lastTerm termFrom flatMap rowsFrom charges says clash charge twoVotes sameRequest all twoStamps staleVote staler agree sameRecord same lowest lower sooner
 two-terms = refl
 
 -- ---- forks and rows
@@ -105,6 +110,21 @@ rows = (refl, refl, refl, refl)
 -- votes of one term for different candidates: only the replica that signed both certificates is charged
 two-candidates : findings 0 (without (of 4 1 ∷ []) (elected 1 4 0 0 0b011 ∷ [])) (without (of 4 2 ∷ []) (elected 2 4 0 0 0b110 ∷ []))
     ≡ found 0 none (row 1 4) none
-unfolding findings found row without elected of fork committed committedBy differAt slots leads leadsOf runs runsAfter runsFrom run votesOf stampOf receiptsOf certified slot replicasOf
-    replicasFrom lastTerm termFrom flatMap rowsFrom charges says clash charge twoVotes twoStamps staleVote staler agree sameRecord same lowest lower sooner
+unfolding findings found row without elected electedOn of fork committed committedBy differAt slots leads leadsOf runs runsAfter runsFrom run votesOf stampOf receiptsOf certified slot replicasOf
+    replicasFrom lastTerm termFrom flatMap rowsFrom charges says clash charge twoVotes sameRequest all twoStamps staleVote staler agree sameRecord same lowest lower sooner
 two-candidates = refl
+
+-- two terms, the second with this leader certificate
+led-by : Certificate → View
+led-by c = without (of 3 0 ∷ of 4 1 ∷ []) (elected 1 3 0 0 0b011 ∷ c ∷ [])
+
+-- votes of one term for one candidate and two requests, whose last pointer, last index or last term alone is another: only those who signed both
+-- certificates are charged. One request in both charges nobody, whoever signed
+two-requests : (let a = led-by (electedOn (7 ∷ []) 3 4 3 1 0b110) in
+    (findings 0 a (led-by (electedOn (8 ∷ []) 3 4 3 1 0b111)) ≡ found 0 none (row 1 4) (row 1 4))
+    × (findings 0 a (led-by (electedOn (7 ∷ []) 3 4 3 2 0b011)) ≡ found 0 none (row 1 4) none)
+    × (findings 0 a (led-by (electedOn (7 ∷ []) 3 4 2 1 0b101)) ≡ found 0 none none (row 1 4))
+    × (findings 0 a (led-by (electedOn (7 ∷ []) 3 4 3 1 0b111)) ≡ found 0 none none none))
+unfolding findings found row led-by without elected electedOn of fork committed committedBy differAt slots leads leadsOf runs runsAfter runsFrom run votesOf stampOf receiptsOf certified slot replicasOf
+    replicasFrom lastTerm termFrom flatMap rowsFrom charges says clash charge twoVotes sameRequest all twoStamps staleVote staler agree sameRecord same lowest lower sooner
+two-requests = (refl, refl, refl, refl)

@@ -7,13 +7,17 @@ use Prim.Native.Nat.{ℕ, _≤_, _<_}
 use native.Mathlib.Omega.{arith}
 use borrow.Author.Tests.{eq-eqb, ne-eqb, le-leb, lt-leb, lt-ltb, le-ltb}
 use lib.Dec.{eqb, leb, ltb}
+use Rattle.words.specs.BigEndian.{same}
 use Rattle.refusal.specs.Checks.{all}
 use Rattle.refusal.proofs.Laws.{first-fails, first-holds, all-one}
 use Rattle.roster.specs.Masks.{signer}
 use Rattle.log_chain.specs.Ends.{staler}
+use Rattle.log_chain.specs.Claim.{Ballot}
+use Rattle.replica.specs.Replica.{sameRequest}
+use Rattle.replica.specs.Charges.{twoVotes}
 use Rattle.forensics_charges.specs.declared.Tenure.{Tenure}
 use Rattle.forensics_charges.specs.declared.Receipt.{Receipt}
-use Rattle.forensics_charges.specs.Rules.{twoCandidates, twoLogs, forgotten}
+use Rattle.forensics_charges.specs.Rules.{voteOf, twoRequests, twoLogs, forgotten}
 
 -- ---- the first tests taken together, and the others after them
 
@@ -41,18 +45,43 @@ abbrev pub signed : ℕ → ℕ → ℕ → List Bool
 signed k first second = signer first k ∷ signer second k ∷ []
 
 module _ (k : ℕ) (x y : Tenure) where
-  pub no-votes : all (signed k (x .signers) (y .signers)) ≡ false → false ≡ twoCandidates k x y
-  unfolding twoCandidates
+  pub no-votes : all (signed k (x .signers) (y .signers)) ≡ false → false ≡ twoRequests k x y
+  unfolding twoRequests
   no-votes e = part-fails (signed k (x .signers) (y .signers)) _ e
 
   module _ (votes : all (signed k (x .signers) (y .signers)) ≡ true) where
-    pub other-term : (x .term ≡ y .term → ⊥) → false ≡ twoCandidates k x y
-    unfolding twoCandidates
-    other-term h = part-holds (signed k (x .signers) (y .signers)) _ votes (first-fails _ _ (ne-eqb _ _ h))
+    by-votes : {r : Bool} → r ≡ twoVotes (voteOf x) (voteOf y) → r ≡ twoRequests k x y
+    unfolding twoRequests
+    by-votes e = part-holds (signed k (x .signers) (y .signers)) _ votes (e ∙ all-one _)
 
-    pub by-candidates : x .term ≡ y .term → not (eqb (x .candidate) (y .candidate)) ≡ twoCandidates k x y
-    unfolding twoCandidates
-    by-candidates h = part-holds (signed k (x .signers) (y .signers)) _ votes (first-holds _ _ (eq-eqb _ _ h) (all-one _))
+    pub other-term : (x .term ≡ y .term → ⊥) → false ≡ twoRequests k x y
+    unfolding twoVotes voteOf
+    other-term h = by-votes (rw (ne-eqb _ _ h) refl)
+
+    pub by-requests : x .term ≡ y .term → not (sameRequest (voteOf x) (voteOf y)) ≡ twoRequests k x y
+    unfolding twoVotes voteOf
+    by-requests h = by-votes (rw (eq-eqb _ _ h) refl)
+
+-- one request, field by field
+module _ (a b : Ballot) where
+  pub other-candidate : (a .candidate ≡ b .candidate → ⊥) → false ≡ sameRequest a b
+  unfolding sameRequest
+  other-candidate h = first-fails _ _ (ne-eqb _ _ h)
+
+  module _ (candidate : a .candidate ≡ b .candidate) where
+    pub other-last-term : (a .lastTerm ≡ b .lastTerm → ⊥) → false ≡ sameRequest a b
+    unfolding sameRequest
+    other-last-term h = first-holds _ _ (eq-eqb _ _ candidate) (first-fails _ _ (ne-eqb _ _ h))
+
+    module _ (term : a .lastTerm ≡ b .lastTerm) where
+      pub other-last-index : (a .lastIndex ≡ b .lastIndex → ⊥) → false ≡ sameRequest a b
+      unfolding sameRequest
+      other-last-index h = first-holds _ _ (eq-eqb _ _ candidate) (first-holds _ _ (eq-eqb _ _ term) (first-fails _ _ (ne-eqb _ _ h)))
+
+      pub by-pointers : a .lastIndex ≡ b .lastIndex → same (a .lastPointer) (b .lastPointer) ≡ sameRequest a b
+      unfolding sameRequest
+      by-pointers h =
+          first-holds _ _ (eq-eqb _ _ candidate) (first-holds _ _ (eq-eqb _ _ term) (first-holds _ _ (eq-eqb _ _ h) (all-one _)))
 
 -- ---- rule 2
 

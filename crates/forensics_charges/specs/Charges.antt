@@ -12,7 +12,7 @@ use Rattle.replica.specs.Charges.{Charge, charge}
 use Rattle.submission.specs.View.{Commit, View}
 use Rattle.forensics.specs.Findings as forensics
 use Rattle.forensics_charges.specs.declared.Tenure.{Tenure}
-use Rattle.forensics_charges.specs.Rules.{twoCandidates, twoLogs, forgotten}
+use Rattle.forensics_charges.specs.Rules.{twoRequests, twoLogs, forgotten}
 use Rattle.forensics_charges.specs.declared.Receipt.{Receipt}
 use Rattle.forensics_charges.specs.declared.Row.{Row}
 use Rattle.forensics_charges.specs.declared.Findings.{Findings}
@@ -34,7 +34,7 @@ module _ (k : ℕ) where
   -- the charges from a term of the first submission and one of the second
   unfoldable pub between : ℕ → Tenure → Tenure → List Charge
   between difference x y =
-      charge (twoCandidates k x y) 1 (x .term) ++ charge (twoLogs k difference x y) 2 (x .term)
+      charge (twoRequests k x y) 1 (x .term) ++ charge (twoLogs k difference x y) 2 (x .term)
 
   unfoldable pub amongTerms : ℕ → List Tenure → List Tenure → List Charge
   amongTerms difference xs ys = flatMap (λ x. flatMap (between difference x) ys) xs

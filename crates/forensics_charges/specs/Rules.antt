@@ -1,23 +1,32 @@
 -- The four rules over the numbers that they compare (document 01, "The report").
-use mathlib.Core.Bool.{Bool, not}
+use mathlib.Core.Bool.{Bool}
 use mathlib.Core.List.{[], _∷_}
 use Prim.Native.Nat.{ℕ}
 use lib.Dec.{eqb, leb, ltb}
 use Rattle.refusal.specs.Checks.{all}
 use Rattle.roster.specs.Masks.{signer}
 use Rattle.log_chain.specs.Ends.{staler}
+use Rattle.log_chain.specs.Claim.{Ballot}
+use Rattle.replica.specs.Charges.{twoVotes}
 use Rattle.forensics_charges.specs.declared.Tenure.{Tenure}
 use Rattle.forensics_charges.specs.declared.Receipt.{Receipt}
 
+-- the vote of a term's leader certificate
+unfoldable pub voteOf : Tenure → Ballot
+voteOf x =
+    record {
+      candidate = x .candidate;
+      term = x .term;
+      lastTerm = x .«last_term»;
+      lastIndex = x .«last_index»;
+      lastPointer = x .«last_pointer»;
+    }
+
 -- for replica k
 module _ (k : ℕ) where
-  -- rule 1: a signer of leader certificates of one term with different candidates
-  unfoldable pub twoCandidates : Tenure → Tenure → Bool
-  twoCandidates x y =
-      all (
-      signer (x .signers) k ∷ signer (y .signers) k ∷ eqb (x .term) (y .term) ∷
-      not (eqb (x .candidate) (y .candidate)) ∷ []
-      )
+  -- rule 1: a signer of leader certificates of one term with different votes
+  unfoldable pub twoRequests : Tenure → Tenure → Bool
+  twoRequests x y = all (signer (x .signers) k ∷ signer (y .signers) k ∷ twoVotes (voteOf x) (voteOf y) ∷ [])
 
   -- rule 2: stamps in one term, and the logs differ first at an index (0 for none) that is not above either
   unfoldable pub twoLogs : ℕ → Tenure → Tenure → Bool

@@ -10,13 +10,14 @@ ghost use Rattle.forensics_charges.specs.Charges as inner;
 
 pub mod rules;
 
-// A term of a submission as its rules compare it: the numbers of its leader certificate, and the index of its
-// last record in this log, where the stamp is.
+// A term of a submission as its rules compare it: the vote and the signers of its leader certificate, and the
+// index of its last record in this log, where the stamp is.
 pub struct Tenure {
     pub candidate: u16,
     pub term: u64,
     pub last_term: u64,
     pub last_index: u32,
+    pub last_pointer: [u8; log_chain::POINTER_SIZE],
     pub signers: u16,
     pub end: u32,
 }
@@ -80,7 +81,7 @@ pub fn between(k: usize, difference: usize, x: Tenure, y: Tenure) -> Row
     requires { ⌜ 0 < k ⌝ }
     ensures { λ r. ⌜ inner.chargeOf r ≡ lowest (inner.between k difference x y) ⌝ }
 {
-    let votes = charged(rules::two_candidates(k, x, y), 1, x.term);
+    let votes = charged(rules::two_requests(k, x, y), 1, x.term);
     let stamps = charged(rules::two_logs(k, difference, x, y), 2, x.term);
     lower_row(votes, stamps)
 }

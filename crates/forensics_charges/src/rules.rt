@@ -3,9 +3,11 @@ ghost use mathlib.Core.Path.{_≡_};
 ghost use mathlib.Core.List.{[], _∷_};
 ghost use Prim.Native.Nat.{_<_};
 ghost use lib.Dec.{eqb, leb, ltb};
+ghost use Rattle.words.specs.BigEndian.{same};
 ghost use Rattle.refusal.specs.Checks.{all};
 ghost use Rattle.roster.specs.Masks.{signer};
 ghost use Rattle.log_chain.specs.Ends as ends;
+ghost use Rattle.replica.specs.Replica.{sameRequest};
 ghost use Rattle.forensics_charges.specs.Rules as inner;
 use super::Receipt;
 use super::Tenure;
@@ -31,10 +33,36 @@ fn both_signed(k: usize, first: u16, second: u16) -> bool
     roster::signer(second, k)
 }
 
-// Rule 1: whether replica k voted for different candidates in one term.
-pub fn two_candidates(k: usize, x: Tenure, y: Tenure) -> bool
+// Whether two pointers are the same. (In `same_request`, after its tests, the length of a struct's array is
+// not found.)
+fn same_pointer(x: [u8; log_chain::POINTER_SIZE], y: [u8; log_chain::POINTER_SIZE]) -> bool
+    ensures { λ r. ⌜ r ≡ same x y ⌝ }
+{
+    check::same(&x, &y)
+}
+
+// Whether the votes of two terms are for one request: candidate, last term, last index and last pointer.
+fn same_request(x: Tenure, y: Tenure) -> bool
+    ensures { λ r. ⌜ r ≡ sameRequest (inner.voteOf x) (inner.voteOf y) ⌝ }
+{
+    if x.candidate != y.candidate {
+        return false;
+    }
+    if x.last_term != y.last_term {
+        return false;
+    }
+    if x.last_index != y.last_index {
+        return false;
+    }
+    let first = x.last_pointer;
+    let second = y.last_pointer;
+    same_pointer(first, second)
+}
+
+// Rule 1: whether replica k voted for different requests in one term.
+pub fn two_requests(k: usize, x: Tenure, y: Tenure) -> bool
     requires { ⌜ 0 < k ⌝ }
-    ensures { λ r. ⌜ r ≡ inner.twoCandidates k x y ⌝ }
+    ensures { λ r. ⌜ r ≡ inner.twoRequests k x y ⌝ }
 {
     if !both_signed(k, x.signers, y.signers) {
         return false;
@@ -42,7 +70,7 @@ pub fn two_candidates(k: usize, x: Tenure, y: Tenure) -> bool
     if x.term != y.term {
         return false;
     }
-    x.candidate != y.candidate
+    !same_request(x, y)
 }
 
 // Whether replica k is the candidate x of term a and the candidate y of term b, and the terms are one.

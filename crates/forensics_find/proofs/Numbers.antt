@@ -1,4 +1,4 @@
--- One term as it is read: the numbers of its leader certificate, and its end.
+-- One term as it is read: the numbers and the last pointer of its leader certificate, and its end.
 -- Assumes nothing.
 use mathlib.Core.Path.{_≡_, sym, ap, _∙_}
 use mathlib.Core.List.{List}
@@ -6,6 +6,7 @@ use Prim.Native.Nat.{ℕ, suc, _+_, _-_, _<_}
 use native.Mathlib.Omega.{arith}
 use Rattle.words.specs.BigEndian.{numberAt}
 use Rattle.submission.specs.Trailer.{recordCount}
+use Rattle.submission.specs.Reading.{ballotAt}
 use Rattle.submission_parts.specs.declared.Certificate.{Certificate as Numbers}
 use Rattle.submission_parts.specs.Reader.{numbersAt}
 use Rattle.submission.proofs.Places.{last-index-at}
@@ -23,9 +24,10 @@ module _ (w : ℕ) (s : List ℕ) (later next : ℕ) where
       let count : later ≡ suc (later - 1) = omega arith in
       last-index-at w s next ∙ ap (λ (n : ℕ). endAt w s n next) (sym count)
 
-pub tenure-numbers : (w : ℕ) (s : List ℕ) (later at next : ℕ) {c : Numbers} {end : ℕ} → c ≡ numbersAt w s at → end ≡ endAt w s later next
+pub tenure-numbers : (w : ℕ) (s : List ℕ) (later at next : ℕ) {c : Numbers} {end : ℕ} {pointer : List ℕ} → c ≡ numbersAt w s at
+    → pointer ≡ ballotAt w s at .lastPointer → end ≡ endAt w s later next
     → _≡_ {A = Tenure}
-    (record { candidate = c .candidate; term = c .term; «last_term» = c .«last_term»; «last_index» = c .«last_index»; signers = c .signers; end = end })
+    (record { candidate = c .candidate; term = c .term; «last_term» = c .«last_term»; «last_index» = c .«last_index»; «last_pointer» = pointer; signers = c .signers; end = end })
     (tenureAt w s later at next)
 unfolding tenureAt numbersAt
-tenure-numbers w s later at next ec ee = rw (ec, ee)
+tenure-numbers w s later at next ec ep ee = rw (ec, ep, ee)

@@ -31,7 +31,7 @@ use Rattle.forensics.specs.Findings.{says, charges, lowest}
 use Rattle.log_chain.specs.Difference.{differAt}
 use Rattle.forensics_charges.specs.declared.Receipt.{Receipt}
 use Rattle.forensics_charges.specs.declared.Tenure.{Tenure}
-use Rattle.forensics_charges.specs.Rules.{twoCandidates, twoLogs, forgotten}
+use Rattle.forensics_charges.specs.Rules.{voteOf, twoRequests, twoLogs, forgotten}
 use Rattle.forensics_charges.specs.Charges.{receiptsBy, receipts, between, amongTerms, afterReceipts, least, ruledBy}
 use Rattle.forensics_find.proofs.Views.{tenure, tenures, ruled}
 use Rattle.forensics_charges.proofs.Lowest.{lowest-append, lowest-split, lowest-both}
@@ -121,12 +121,15 @@ module _ (k : ℕ) where
   -- 1: of the votes
   vote-pair : (x y : Lead)
       → cond (voter k x) (cond (voter k y) (clash (vote x) (vote y)) []) []
-      ≡ charge (twoCandidates k (tenure x) (tenure y)) 1 (tenure x .term)
-  unfolding clash twoVotes twoCandidates tenure
-  vote-pair x y = charge-after _ _ _ _ 1 _
+      ≡ charge (twoRequests k (tenure x) (tenure y)) 1 (tenure x .term)
+  unfolding clash twoRequests voteOf tenure all
+  vote-pair x y =
+      let a = x .certificate .ballot in
+      let b = y .certificate .ballot in
+      rw (last-test (twoVotes a b)) (charge-tests (voter k x) (voter k y) (twoVotes a b) 1 (a .term))
 
   votes-ruled : (ls ms : List Lead)
-      → pairs (flatMap (voteBy k) ls) (flatMap (voteBy k) ms) ≡ chargedBy (λ x y. twoCandidates k (tenure x) (tenure y)) 1 ls ms
+      → pairs (flatMap (voteBy k) ls) (flatMap (voteBy k) ms) ≡ chargedBy (λ x y. twoRequests k (tenure x) (tenure y)) 1 ls ms
   unfolding voteBy
   votes-ruled ls ms =
       pairs-over (voteBy k) ls (flatMap (voteBy k) ms)
@@ -190,11 +193,11 @@ module _ (k : ℕ) where
   -- 1 and 2 together, term by term
   terms-ruled : (d : ℕ) (ls ms : List Lead)
       → lowest (amongTerms k d (map tenure ls) (map tenure ms))
-      ≡ least (lowest (chargedBy (λ x y. twoCandidates k (tenure x) (tenure y)) 1 ls ms)) (lowest (chargedBy (λ x y. twoLogs k d (tenure x) (tenure y)) 2 ls ms))
+      ≡ least (lowest (chargedBy (λ x y. twoRequests k (tenure x) (tenure y)) 1 ls ms)) (lowest (chargedBy (λ x y. twoLogs k d (tenure x) (tenure y)) 2 ls ms))
   unfolding amongTerms between
   terms-ruled d ls ms =
       ap lowest (flatMap-map (λ x. flatMap (between k d x) (map tenure ms)) tenure ls ∙ over-same _ _ ls (λ x m. flatMap-map (between k d (tenure x)) tenure ms))
-      ∙ lowest-split _ (λ x. flatMap (λ y. charge (twoCandidates k (tenure x) (tenure y)) 1 (tenure x .term)) ms)
+      ∙ lowest-split _ (λ x. flatMap (λ y. charge (twoRequests k (tenure x) (tenure y)) 1 (tenure x .term)) ms)
       (λ x. flatMap (λ y. charge (twoLogs k d (tenure x) (tenure y)) 2 (tenure x .term)) ms) (λ x. lowest-both _ _ ms) ls
 
 -- ---- the terms of an accepted submission
@@ -226,7 +229,7 @@ module _ (form : Form) (n S k : ℕ) (some-replica : 0 < k) (few : k ≤ 16) (a 
       let d = differAt 1 (a .log) (b .log) in
       least
       (least
-      (least (lowest (chargedBy (λ x y. twoCandidates k (tenure x) (tenure y)) 1 (leads a) (leads b)))
+      (least (lowest (chargedBy (λ x y. twoRequests k (tenure x) (tenure y)) 1 (leads a) (leads b)))
       (lowest (chargedBy (λ x y. twoLogs k d (tenure x) (tenure y)) 2 (leads a) (leads b))))
       (lowest (afterReceipts k 3 (receiptsBy (a .commit) (a .log)) (map tenure (leads b)))))
       (lowest (afterReceipts k 4 (receiptsBy (b .commit) (b .log)) (map tenure (leads a))))

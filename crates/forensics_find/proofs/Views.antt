@@ -17,6 +17,7 @@ tenure l =
       term = b .term;
       «last_term» = b .lastTerm;
       «last_index» = b .lastIndex;
+      «last_pointer» = b .lastPointer;
       signers = c .signers;
       end = length (l .term .upto);
     }

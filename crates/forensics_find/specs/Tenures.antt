@@ -22,6 +22,7 @@ module _ (w : ℕ) (s : List ℕ) where
         term = b .term;
         «last_term» = b .lastTerm;
         «last_index» = b .lastIndex;
+        «last_pointer» = b .lastPointer;
         signers = signersAt s (at + ballotSize w);
         end = endAt later next;
       }

@@ -3,7 +3,7 @@
 -- Assumes nothing.
 use mathlib.Core.Path.{_≡_, refl}
 use mathlib.Core.Bool.{Bool, true, false}
-use mathlib.Core.List.{List, [], _∷_}
+use mathlib.Core.List.{List, [], _∷_, _++_}
 use mathlib.Core.Option.{Option, some, none}
 use Prim.Native.Nat.{ℕ}
 use lib.ListN.{replicate}
@@ -12,7 +12,7 @@ use Rattle.refusal.specs.Checks.{all}
 use Rattle.log_chain.specs.Log.{version1, Record, termFrom, lastTerm}
 use Rattle.log_chain.specs.Claim.{Ballot, stamped, received, voted}
 use Rattle.log_chain.specs.Ends.{rising, staler}
-use Rattle.replica.specs.Replica.{State, Act, raise, vote, run, add, stamp, receipt, decline, restart, fitsTerm, fitsIndex, fitsRecords, oneCandidate, noStamp, noStaler, rules, allowed, first, after, signs, keeps, signed, held}
+use Rattle.replica.specs.Replica.{State, Act, raise, vote, run, add, stamp, receipt, decline, restart, fitsTerm, fitsIndex, fitsRecords, sameRequest, oneRequest, noStamp, noStaler, rules, allowed, first, after, signs, keeps, signed, held}
 use Rattle.replica.specs.Charges.{twoVotes, twoStamps, staleVote}
 use Rattle.log_chain.specs.Difference.{agree, sameRecord}
 
@@ -20,8 +20,11 @@ use Rattle.log_chain.specs.Difference.{agree, sameRecord}
 of : ℕ → ℕ → Record
 of t x = record { term = t; digest = x ∷ replicate 31 0 }
 
+ballotOn : List ℕ → ℕ → ℕ → ℕ → ℕ → Ballot
+ballotOn pointer candidate t u j = record { candidate = candidate; term = t; lastTerm = u; lastIndex = j; lastPointer = pointer }
+
 ballot : ℕ → ℕ → ℕ → ℕ → Ballot
-ballot candidate t u j = record { candidate = candidate; term = t; lastTerm = u; lastIndex = j; lastPointer = replicate 32 0 }
+ballot = ballotOn (replicate 32 0)
 
 -- three replicas; term 4, a vote for replica 2 in it, records of terms 3 and 4
 ready : Option ℕ → State
@@ -32,30 +35,42 @@ may mark a = allowed (version1 (replicate 16 0)) 3 (ready mark) a
 
 -- its term may stay or rise, and does not fall; it fits four bytes
 raises : (may none (raise 4) ≡ true) × (may none (raise 3) ≡ false) × (may none (raise 4294967296) ≡ false)
-unfolding may ready of ballot allowed all rules fitsTerm fitsIndex fitsRecords oneCandidate noStamp noStaler lastTerm termFrom rising staler version1
+unfolding may ready of ballot ballotOn allowed all rules same fitsTerm fitsIndex fitsRecords sameRequest oneRequest noStamp noStaler lastTerm termFrom rising staler version1
 raises = (refl, refl, refl)
 
--- votes: term, candidate 1 to 3, one candidate a term, a log no staler (term first), fields that fit
-votes : (may none (vote (ballot 2 4 4 2)) ≡ true) × (may none (vote (ballot 3 5 4 2)) ≡ true) × (may none (vote (ballot 2 3 4 2)) ≡ false)
+-- votes: term, candidate 1 to 3, one request a term, a log no staler (term first), fields that fit
+votes : (may none (vote (ballot 2 4 4 2)) ≡ false) × (may none (vote (ballot 3 5 4 2)) ≡ true) × (may none (vote (ballot 2 3 4 2)) ≡ false)
     × (may none (vote (ballot 0 5 4 2)) ≡ false) × (may none (vote (ballot 4 5 4 2)) ≡ false) × (may none (vote (ballot 1 4 4 2)) ≡ false)
     × (may none (vote (ballot 2 5 4 1)) ≡ false) × (may none (vote (ballot 2 5 3 9)) ≡ false) × (may none (vote (ballot 2 5 5 1)) ≡ true)
     × (may none (vote (ballot 2 5 4 4294967296)) ≡ false)
     × (may none (vote (ballot 2 4294967296 4 2)) ≡ false) × (may none (vote (ballot 2 5 4294967296 2)) ≡ false)
-unfolding may ready of ballot allowed all rules fitsTerm fitsIndex fitsRecords oneCandidate noStamp noStaler lastTerm termFrom rising staler version1
+unfolding may ready of ballot ballotOn allowed all rules same fitsTerm fitsIndex fitsRecords sameRequest oneRequest noStamp noStaler lastTerm termFrom rising staler version1
 votes = (refl, refl, refl, refl, refl, refl, refl, refl, refl, refl, refl, refl)
+
+-- votes of one term are for one request. After a vote for replica 2 on (3, 1): the same again; not with another candidate, last term, last index or last
+-- pointer, in its first byte or its last; all of these in the next term
+again : Ballot → Bool
+again b = allowed (version1 (replicate 16 0)) 3 (record { term = 4; vote = some (ballot 2 4 3 1); stamp = none; log = of 3 0 ∷ [] }) (vote b)
+
+requests : (again (ballot 2 4 3 1) ≡ true) × (again (ballot 1 4 3 1) ≡ false) × (again (ballot 2 4 4 1) ≡ false) × (again (ballot 2 4 3 2) ≡ false)
+    × (again (ballotOn (1 ∷ replicate 31 0) 2 4 3 1) ≡ false) × (again (ballotOn (replicate 31 0 ++ (1 ∷ [])) 2 4 3 1) ≡ false)
+    × (again (ballot 2 5 3 1) ≡ true) × (again (ballot 1 5 3 1) ≡ true) × (again (ballot 2 5 4 1) ≡ true) × (again (ballot 2 5 3 2) ≡ true)
+    × (again (ballotOn (1 ∷ replicate 31 0) 2 5 3 1) ≡ true)
+unfolding again of ballot ballotOn allowed all rules same fitsTerm fitsIndex sameRequest oneRequest noStaler lastTerm termFrom staler version1
+requests = (refl, refl, refl, refl, refl, refl, refl, refl, refl, refl, refl)
 
 -- runs: some records kept, one or more new, terms in order and above 0, the last of its own term, no staler, no stamp in this term
 runs : (may none (run 1 (of 4 1 ∷ [])) ≡ true) × (may none (run 0 (of 4 1 ∷ of 4 2 ∷ [])) ≡ true) × (may none (run 3 (of 4 1 ∷ [])) ≡ false)
     × (may none (run 2 []) ≡ false) × (may none (run 0 (of 0 1 ∷ of 4 2 ∷ [])) ≡ false) × (may none (run 2 (of 3 1 ∷ of 4 2 ∷ [])) ≡ false)
     × (may none (run 1 (of 3 1 ∷ of 3 2 ∷ [])) ≡ false) × (may none (run 0 (of 4 1 ∷ [])) ≡ false) × (may (some 4) (run 1 (of 4 1 ∷ [])) ≡ false)
     × (may (some 3) (run 1 (of 4 1 ∷ [])) ≡ true)
-unfolding may ready of ballot allowed all rules fitsTerm fitsIndex fitsRecords oneCandidate noStamp noStaler lastTerm termFrom rising staler version1
+unfolding may ready of ballot ballotOn allowed all rules same fitsTerm fitsIndex fitsRecords sameRequest oneRequest noStamp noStaler lastTerm termFrom rising staler version1
 runs = (refl, refl, refl, refl, refl, refl, refl, refl, refl, refl)
 
 -- records added are of its own term; stamps are on its last record, of its own term; receipts on records of its own term
 others : (may none (add (of 4 7)) ≡ true) × (may none (add (of 3 7)) ≡ false) × (may none (add (of 5 7)) ≡ false) × (may none stamp ≡ true)
     × (may none (receipt 2) ≡ true) × (may none (receipt 1) ≡ false) × (may none (receipt 0) ≡ false) × (may none (receipt 3) ≡ false)
-unfolding may ready of ballot allowed all rules fitsTerm fitsIndex fitsRecords oneCandidate noStamp noStaler lastTerm termFrom rising staler version1
+unfolding may ready of ballot ballotOn allowed all rules same fitsTerm fitsIndex fitsRecords sameRequest oneRequest noStamp noStaler lastTerm termFrom rising staler version1
 others = (refl, refl, refl, refl, refl, refl, refl, refl)
 
 -- at a term with a log, with no vote and no stamp: no stamp on an empty log or on another term's record, no record of term 0, a payload digest of 32
@@ -71,34 +86,47 @@ edges = (refl, refl, refl, refl, refl, refl, refl)
 -- document 01, worked figures of rule 3: after a receipt (term 3, index 7), a vote in term 5
 stale : (staleVote 3 (replicate 7 (of 3 0)) (ballot 1 5 3 6) ≡ true) × (staleVote 3 (replicate 7 (of 3 0)) (ballot 1 5 3 7) ≡ false)
     × (staleVote 3 (replicate 7 (of 3 0)) (ballot 1 5 4 1) ≡ false)
-unfolding of ballot staleVote staler
+unfolding of ballot ballotOn staleVote staler
 stale = (refl, refl, refl)
 
--- not charged: a log that is a beginning of the other, stamps of two terms, votes of one term for one candidate; charged: the rest
+-- not charged: a log that is a beginning of the other, stamps of two terms; charged: the rest
 charges : (twoStamps 1 (of 1 0 ∷ []) 1 (of 1 0 ∷ of 1 1 ∷ []) ≡ false) × (twoStamps 1 (of 1 0 ∷ []) 2 (of 2 0 ∷ []) ≡ false)
-    × (twoStamps 1 (of 1 0 ∷ []) 1 (of 1 1 ∷ of 1 1 ∷ []) ≡ true) × (twoVotes (ballot 1 4 3 1) (ballot 1 4 4 2) ≡ false)
-    × (twoVotes (ballot 1 4 3 1) (ballot 2 5 3 1) ≡ false) × (twoVotes (ballot 1 4 3 1) (ballot 2 4 3 1) ≡ true)
-unfolding of ballot twoStamps agree sameRecord same twoVotes
-charges = (refl, refl, refl, refl, refl, refl)
+    × (twoStamps 1 (of 1 0 ∷ []) 1 (of 1 1 ∷ of 1 1 ∷ []) ≡ true)
+unfolding of twoStamps agree sameRecord same
+charges = (refl, refl, refl)
+
+-- not charged: the same vote, votes of two terms, whatever else differs; charged: votes of one term with another candidate, last term, last index or
+-- last pointer, in its first byte or its last
+vote-charges : (let a = ballot 1 4 3 1 in let b = ballotOn (1 ∷ replicate 31 0) 2 5 4 2 in
+    (twoVotes a a ≡ false) × (twoVotes a (ballot 1 5 3 1) ≡ false) × (twoVotes a b ≡ false) × (twoVotes b a ≡ false)
+    × (twoVotes a (ballot 2 4 3 1) ≡ true) × (twoVotes a (ballot 1 4 2 1) ≡ true) × (twoVotes a (ballot 1 4 3 0) ≡ true)
+    × (twoVotes a (ballotOn (1 ∷ replicate 31 0) 1 4 3 1) ≡ true) × (twoVotes (ballotOn (replicate 31 0 ++ (1 ∷ [])) 1 4 3 1) a ≡ true))
+unfolding ballot ballotOn same all sameRequest twoVotes
+vote-charges = (refl, refl, refl, refl, refl, refl, refl, refl, refl)
 
 -- ---- what the rules leave open: acts that a stricter rule would forbid, and beside them some that are forbidden
 
--- the first vote of all, in term 0 too; a candidate whose last term is above the vote's; a vote after a stamp in the term; the largest numbers
+-- the first vote of all, in term 0 too; a candidate whose last term is above the vote's; a vote after a stamp in the term, and the same again; the
+-- largest numbers
+stamped-at-4 : Option Ballot → Act → Bool
+stamped-at-4 v a = allowed (version1 (replicate 16 0)) 3 (record { term = 4; vote = v; stamp = some 4; log = of 3 0 ∷ of 4 0 ∷ [] }) a
+
 open-votes : (at 1 [] (vote (ballot 1 1 0 0)) ≡ true) × (at 0 [] (vote (ballot 3 0 0 0)) ≡ true) × (may none (vote (ballot 2 5 9 1)) ≡ true)
-    × (may (some 4) (vote (ballot 2 4 4 2)) ≡ true) × (may none (vote (ballot 2 4294967295 4294967295 4294967295)) ≡ true) × (may none (raise 4294967295) ≡ true)
-unfolding may at ready of ballot allowed all rules fitsTerm fitsIndex fitsRecords oneCandidate noStamp noStaler lastTerm termFrom rising staler version1
-open-votes = (refl, refl, refl, refl, refl, refl)
+    × (stamped-at-4 none (vote (ballot 2 4 4 2)) ≡ true) × (stamped-at-4 (some (ballot 2 4 4 2)) (vote (ballot 2 4 4 2)) ≡ true)
+    × (may none (vote (ballot 2 4294967295 4294967295 4294967295)) ≡ true) × (may none (raise 4294967295) ≡ true)
+unfolding stamped-at-4 may at ready of ballot ballotOn allowed all rules same fitsTerm fitsIndex fitsRecords sameRequest oneRequest noStamp noStaler lastTerm termFrom rising staler version1
+open-votes = (refl, refl, refl, refl, refl, refl, refl)
 
 -- a run that only adds, on an empty log too; one that ends in another term's record, above or below its own; a digest of 31 bytes
 open-runs : (may none (run 2 (of 4 1 ∷ [])) ≡ true) × (at 1 [] (run 0 (of 1 1 ∷ [])) ≡ true) × (may none (run 2 (of 5 1 ∷ [])) ≡ false)
     × (at 5 (of 3 0 ∷ []) (run 1 (of 4 1 ∷ [])) ≡ false) × (may none (run 1 (record { term = 4; digest = replicate 31 0 } ∷ [])) ≡ false)
-unfolding may at ready of ballot allowed all rules fitsTerm fitsIndex fitsRecords oneCandidate noStamp noStaler lastTerm termFrom rising staler version1
+unfolding may at ready of ballot ballotOn allowed all rules same fitsTerm fitsIndex fitsRecords sameRequest oneRequest noStamp noStaler lastTerm termFrom rising staler version1
 open-runs = (refl, refl, refl, refl, refl)
 
 -- after a stamp in the term: another stamp, a record, a receipt; a receipt for a record that is not the last; none for record 0
 open-others : (may (some 4) stamp ≡ true) × (may (some 4) (add (of 4 7)) ≡ true) × (may (some 4) (receipt 2) ≡ true)
     × (at 4 (of 4 0 ∷ of 4 1 ∷ []) (receipt 1) ≡ true) × (at 0 [] (receipt 0) ≡ false)
-unfolding may at ready of ballot allowed all rules fitsTerm fitsIndex fitsRecords oneCandidate noStamp noStaler lastTerm termFrom rising staler version1
+unfolding may at ready of ballot ballotOn allowed all rules same fitsTerm fitsIndex fitsRecords sameRequest oneRequest noStamp noStaler lastTerm termFrom rising staler version1
 open-others = (refl, refl, refl, refl, refl)
 
 -- ---- states, statements, logs
@@ -114,15 +142,15 @@ leaves : (let s = ready (some 3) in (after s (raise 6) ≡ record { term = 6; vo
     × (after s (add (of 4 7)) ≡ record { term = 4; vote = s .vote; stamp = s .stamp; log = of 3 0 ∷ of 4 0 ∷ of 4 7 ∷ [] })
     × (after s stamp ≡ record { term = 4; vote = s .vote; stamp = some 4; log = s .log }) × (after s (receipt 1) ≡ s) × (after s decline ≡ s)
     × (after s restart ≡ s))
-unfolding after ready of ballot
+unfolding after ready of ballot ballotOn
 leaves = (refl, refl, refl, refl, refl, refl, refl, refl)
 
--- each act in one story: what is signed, and the logs held, with the first and the last
+-- each act in one story, the vote twice: what is signed, and the logs held, with the first and the last
 story : List Act
-story = vote (ballot 2 1 0 0) ∷ run 0 (of 1 1 ∷ of 1 2 ∷ []) ∷ receipt 1 ∷ decline ∷ raise 2 ∷ add (of 2 3) ∷ stamp ∷ restart ∷ []
+story = vote (ballot 2 1 0 0) ∷ vote (ballot 2 1 0 0) ∷ run 0 (of 1 1 ∷ of 1 2 ∷ []) ∷ receipt 1 ∷ decline ∷ raise 2 ∷ add (of 2 3) ∷ stamp ∷ restart ∷ []
 
 told : (let l = of 1 1 ∷ of 1 2 ∷ [] in let m = of 1 1 ∷ of 1 2 ∷ of 2 3 ∷ [] in (keeps (version1 (replicate 16 0)) 3 first story ≡ true)
-    × (signed first story ≡ voted (ballot 2 1 0 0) ∷ received 1 (of 1 1 ∷ []) ∷ stamped 2 m ∷ [])
-    × (held first story ≡ [] ∷ [] ∷ l ∷ l ∷ l ∷ l ∷ m ∷ m ∷ m ∷ []))
-unfolding story of ballot first keeps signed held signs after allowed all rules fitsTerm fitsIndex fitsRecords oneCandidate noStamp noStaler lastTerm termFrom rising staler version1
+    × (signed first story ≡ voted (ballot 2 1 0 0) ∷ voted (ballot 2 1 0 0) ∷ received 1 (of 1 1 ∷ []) ∷ stamped 2 m ∷ [])
+    × (held first story ≡ [] ∷ [] ∷ [] ∷ l ∷ l ∷ l ∷ l ∷ m ∷ m ∷ m ∷ []))
+unfolding story of ballot ballotOn same first keeps signed held signs after allowed all rules fitsTerm fitsIndex fitsRecords sameRequest oneRequest noStamp noStaler lastTerm termFrom rising staler version1
 told = (refl, refl, refl)

@@ -13,12 +13,13 @@ use borrow.Author.Tests.{ltb-true, eqb-true, eqb-false, leb-true, eq-eqb, not-tr
 use lib.Dec.{eqb, ltb}
 use lib.ListN.{length, take, length-append}
 use lib.Seq.{length-take-le}
-use Rattle.words.proofs.Same.{true-same}
+use Rattle.words.proofs.Same.{same-true, true-same}
+use Rattle.refusal.specs.Checks.{all}
 use Rattle.refusal.proofs.Laws.{look, cond-true, all-cons}
 use Rattle.log_chain.specs.Log.{Form, Record, termFrom, lastTerm}
 use Rattle.log_chain.specs.Ends.{rising, staler}
 use Rattle.log_chain.specs.Claim.{Ballot, Claim, stamped, received, voted}
-use Rattle.replica.specs.Replica.{State, first, keeps, signed, Act, raise, vote, run, add, stamp, receipt, decline, restart, oneCandidate, noStamp, noStaler, rules, allowed, after, signs}
+use Rattle.replica.specs.Replica.{State, first, keeps, signed, Act, raise, vote, run, add, stamp, receipt, decline, restart, sameRequest, oneRequest, noStamp, noStaler, rules, allowed, after, signs}
 use Rattle.log_chain.proofs.Order.{Fresh, fresh, not-staler, fresh-trans, last-snoc, take-last-le, rising-snoc}
 use Rattle.replica.specs.Charges.{NeverCharged, clash, charge, twoVotes, twoStamps, staleVote}
 use Rattle.log_chain.specs.Difference.{agree, sameRecord}
@@ -28,13 +29,9 @@ use Rattle.log_chain.specs.Difference.{agree, sameRecord}
 Begins : List Record → List Record → Type 0
 Begins l m = (rest : List Record) × (l ++ rest ≡ m)
 
-abbrev LastVote : Option Ballot → Ballot → Type 0
-LastVote none b = ⊥
-LastVote (some v) b = (v .term ≡ b .term) × (v .candidate ≡ b .candidate)
-
--- of a claim that was signed before
+-- of a claim that was signed before; of a vote of the state's own term, the vote itself
 abbrev Kept : State → Claim → Type 0
-Kept s (voted b) = (b .term ≤ s .term) × (b .term ≡ s .term → LastVote (s .vote) b)
+Kept s (voted b) = (b .term ≤ s .term) × (b .term ≡ s .term → s .vote ≡ some b)
 Kept s (stamped t l) = (t ≤ s .term) × (t ≡ s .term → (s .stamp ≡ some t) × Begins l (s .log))
 Kept s (received t l) = (t ≤ s .term) × Fresh (lastTerm (s .log)) (length (s .log)) t (length l)
 
@@ -52,7 +49,7 @@ module _ (form : Form) (n : ℕ) (s : State) where
 
   record VoteFacts (b : Ballot) : Type 0 where
     term : s .term ≤ b .term
-    one : oneCandidate (s .vote) b ≡ true
+    one : oneRequest (s .vote) b ≡ true
     end : Fresh (b .lastTerm) (b .lastIndex) (lastTerm (s .log)) (length (s .log))
 
   vote-facts : (b : Ballot) → allowed form n s (vote b) ≡ true → VoteFacts b
@@ -112,6 +109,24 @@ begins-more : (l m rest : List Record) → Begins l m → Begins l (m ++ rest)
 unfolding Begins
 begins-more l m rest b = (b .0 ++ rest, sym (append-assoc l (b .0) rest) ∙ ap (λ (x : List Record). x ++ rest) (b .1))
 
+-- one request in one term is one vote
+pub request-vote : (a b : Ballot) → a .term ≡ b .term → sameRequest a b ≡ true → a ≡ b
+unfolding sameRequest
+request-vote a b t e =
+    let e1 = all-cons _ _ e in
+    let e2 = all-cons _ _ (e1 .1) in
+    let e3 = all-cons _ _ (e2 .1) in
+    let candidate = eqb-true _ _ (e1 .0) in
+    let term = eqb-true _ _ (e2 .0) in
+    let index = eqb-true _ _ (e3 .0) in
+    let pointer = same-true _ _ (all-cons _ _ (e3 .1) .0) in
+    λ k. record { candidate = candidate k; term = t k; lastTerm = term k; lastIndex = index k; lastPointer = pointer k }
+
+vote-request : (a b : Ballot) → a ≡ b → sameRequest a b ≡ true
+unfolding sameRequest all
+vote-request a b e =
+    rw (e, eq-eqb (b .candidate) (b .candidate) refl, eq-eqb (b .lastTerm) (b .lastTerm) refl, eq-eqb (b .lastIndex) (b .lastIndex) refl, true-same (b .lastPointer))
+
 no-charge : (b : Bool) (rule term : ℕ) → b ≡ false → charge b rule term ≡ []
 unfolding charge
 no-charge b rule term e = rw e
@@ -153,12 +168,9 @@ module _ (form : Form) (n : ℕ) where
   sound-after s decline e ok = ok
   sound-after s restart e ok = ok
 
-  same-vote : (v : Option Ballot) (a b : Ballot) → oneCandidate v b ≡ true → LastVote v a → a .term ≡ b .term → a .candidate ≡ b .candidate
-  unfolding oneCandidate
-  same-vote none a b e l t = absurd l
-  same-vote (some v) a b e l t =
-      let term = eq-eqb (v .term) (b .term) (l .0 ∙ t) in
-      sym (l .1) ∙ eqb-true (v .candidate) (b .candidate) (rw term at e)
+  same-vote : (v : Option Ballot) (a b : Ballot) → oneRequest v b ≡ true → v ≡ some a → a .term ≡ b .term → a ≡ b
+  unfolding oneRequest
+  same-vote v a b e l t = request-vote a b t (rw (eq-eqb (a .term) (b .term) t) at (rw l at e))
 
   stamped-now : (v : Option ℕ) (t : ℕ) → noStamp v t ≡ true → v ≡ some t → ⊥
   unfolding noStamp
@@ -175,7 +187,7 @@ module _ (form : Form) (n : ℕ) where
   kept-after s (vote a) (voted b) e ok k =
       let f = vote-facts form n s a e in (
         le-trans (k .0) (f .term),
-        λ d. (sym d, sym (same-vote (s .vote) b a (f .one) (k .1 (omega (arith, k .0, f .term))) d)),
+        λ d. ap some (sym (same-vote (s .vote) b a (f .one) (k .1 (omega (arith, k .0, f .term))) d)),
       )
   kept-after s (vote a) (stamped u l) e ok k =
       let f = vote-facts form n s a e in (le-trans (k .0) (f .term), λ d. k .1 (omega (arith, k .0, f .term)))
@@ -207,16 +219,16 @@ module _ (form : Form) (n : ℕ) where
     against : (d : Claim) → Kept s d → Free d c
     itself : Free c c
 
-  two-votes : (a b : Ballot) → (a .term ≡ b .term → a .candidate ≡ b .candidate) → twoVotes a b ≡ false
+  two-votes : (a b : Ballot) → (a .term ≡ b .term → a ≡ b) → twoVotes a b ≡ false
   unfolding twoVotes
   two-votes a b h = go (look (eqb (a .term) (b .term)))
     where
       go : (eqb (a .term) (b .term) ≡ true) ⊎ (eqb (a .term) (b .term) ≡ false)
-          → cond (eqb (a .term) (b .term)) (not (eqb (a .candidate) (b .candidate))) false ≡ false
-      go (inl e) = rw (e, eq-eqb _ _ (h (eqb-true _ _ e)))
+          → cond (eqb (a .term) (b .term)) (not (sameRequest a b)) false ≡ false
+      go (inl e) = rw (e, vote-request a b (h (eqb-true _ _ e)))
       go (inr e) = rw e
 
-  free-votes : (a b : Ballot) → (a .term ≡ b .term → a .candidate ≡ b .candidate) → Free (voted a) (voted b)
+  free-votes : (a b : Ballot) → (a .term ≡ b .term → a ≡ b) → Free (voted a) (voted b)
   unfolding clash
   free-votes a b h =
       (no-charge _ 1 _ (two-votes a b h), no-charge _ 1 _ (two-votes b a (λ d. sym (h (sym d)))))
@@ -254,7 +266,7 @@ module _ (form : Form) (n : ℕ) where
   new-vote s b e ok =
       let f = vote-facts form n s b e in
       record {
-        kept = (le-refl (b .term), λ d. (refl, refl));
+        kept = (le-refl (b .term), λ d. refl);
         against = against f;
         itself = free-votes b b (λ d. refl);
       }

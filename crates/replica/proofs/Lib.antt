@@ -4,3 +4,4 @@ pub mod Signed
 mod Case
 mod ReplicaActs
 mod Outcomes
+mod Strength

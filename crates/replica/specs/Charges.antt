@@ -9,7 +9,7 @@ use lib.ListN.{length}
 use Rattle.log_chain.specs.Log.{Form, Record}
 use Rattle.log_chain.specs.Ends.{staler}
 use Rattle.log_chain.specs.Difference.{agree}
-use Rattle.replica.specs.Replica.{Act, first, keeps, signed}
+use Rattle.replica.specs.Replica.{Act, first, keeps, signed, sameRequest}
 use Rattle.log_chain.specs.Claim.{Ballot, Claim, stamped, received, voted}
 
 pub record Charge : Type 0 where
@@ -20,9 +20,9 @@ unfoldable pub charge : Bool → ℕ → ℕ → List Charge
 charge true rule term = record { rule = rule; term = term } ∷ []
 charge false rule term = []
 
--- votes of one term for different candidates
+-- different votes of one term, also for the same candidate (document 02, W4)
 unfoldable pub twoVotes : Ballot → Ballot → Bool
-twoVotes a b = cond (eqb (a .term) (b .term)) (not (eqb (a .candidate) (b .candidate))) false
+twoVotes a b = cond (eqb (a .term) (b .term)) (not (sameRequest a b)) false
 
 -- stamps of one term on logs that differ within both
 unfoldable pub twoStamps : ℕ → List Record → ℕ → List Record → Bool

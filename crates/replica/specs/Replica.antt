@@ -6,6 +6,7 @@ use mathlib.Core.Option.{Option, some, none}
 use Prim.Native.Nat.{ℕ, _+_, _^_}
 use lib.Dec.{leb, ltb, eqb}
 use lib.ListN.{length, take}
+use Rattle.words.specs.BigEndian.{same}
 use Rattle.refusal.specs.Checks.{all}
 use Rattle.log_chain.specs.Log.{Form, Record, lastTerm}
 use Rattle.log_chain.specs.Ends.{rising, staler}
@@ -50,10 +51,18 @@ fitsRecords form (r ∷ log) =
 
 -- ---- the rules, one to a line
 
--- the last vote is of another term, or for this candidate
-unfoldable pub oneCandidate : Option Ballot → Ballot → Bool
-oneCandidate none b = true
-oneCandidate (some a) b = cond (eqb (a .term) (b .term)) (eqb (a .candidate) (b .candidate)) true
+-- document 02, W4: a vote is for a request: candidate, last term, last index, last pointer
+unfoldable pub sameRequest : Ballot → Ballot → Bool
+sameRequest a b =
+    all (
+    eqb (a .candidate) (b .candidate) ∷ eqb (a .lastTerm) (b .lastTerm) ∷
+    eqb (a .lastIndex) (b .lastIndex) ∷ same (a .lastPointer) (b .lastPointer) ∷ []
+    )
+
+-- the last vote is of another term, or for this request
+unfoldable pub oneRequest : Option Ballot → Ballot → Bool
+oneRequest none b = true
+oneRequest (some a) b = cond (eqb (a .term) (b .term)) (sameRequest a b) true
 
 -- no stamp in this term
 unfoldable pub noStamp : Option ℕ → ℕ → Bool
@@ -72,7 +81,7 @@ module _ (form : Form) (n : ℕ) where
   rules s (vote b) =
       leb (s .term) (b .term) ∷  -- t is not below its own term
       leb 1 (b .candidate) ∷ leb (b .candidate) n ∷  -- a candidate 1 to n
-      oneCandidate (s .vote) b ∷  -- never two in one term
+      oneRequest (s .vote) b ∷  -- all votes of one term are for one request
       noStaler (s .log) (b .lastTerm) (b .lastIndex) ∷  -- no staler than its own log's
       fitsTerm form (b .term) ∷ fitsTerm form (b .lastTerm) ∷ fitsIndex (b .lastIndex) ∷
       eqb (length (b .lastPointer)) 32 ∷ []

@@ -1,5 +1,5 @@
--- The premises of fairness, met all at once by one example: three replicas, two accepted submissions with empty logs, and a replica that raises its term, adds a
--- record, stamps it and gives a receipt for it. That rules out that `Fairness` holds only because nothing meets its premises: board rules that no such acts
+-- The premises of fairness, met all at once by one example: three replicas, two accepted submissions with empty logs, and a replica that raises its term, votes,
+-- adds a record, stamps it and gives a receipt for it. That rules out that `Fairness` holds only because nothing meets its premises: board rules that no such acts
 -- keep, strings that are never apart, or one premise against another. It does not show more: no signature stands in these submissions, so that
 -- `OwnSignatures` asks nothing here, and no replica is named.
 -- Assumes nothing.
@@ -24,7 +24,7 @@ use Rattle.log_chain.specs.Log.{version1, Record, chainString, chainFrom, chain
 use Rattle.log_chain.specs.Claim.{Ballot}
 use Rattle.log_chain.specs.Apart.{Apart}
 use Rattle.log_chain.specs.Ends.{rising, staler}
-use Rattle.replica.specs.Replica.{Act, raise, vote, run, add, stamp, receipt, decline, restart, first, fitsTerm, fitsIndex, fitsRecords, oneCandidate, noStamp, noStaler, rules, allowed, after, keeps, held}
+use Rattle.replica.specs.Replica.{Act, raise, vote, run, add, stamp, receipt, decline, restart, first, fitsTerm, fitsIndex, fitsRecords, sameRequest, oneRequest, noStamp, noStaler, rules, allowed, after, keeps, held}
 use Rattle.submission.specs.Trailer.{name, word, recordCount, leaderCount, distance, version}
 use Rattle.log_chain.specs.Runs.{runs, runsAfter}
 use Rattle.submission.specs.View.{leads, leadsOf, slots, receiptsOf}
@@ -48,7 +48,7 @@ ballot : Ballot
 ballot = record { candidate = 3; term = 1; lastTerm = 0; lastIndex = 0; lastPointer = replicate 32 0 }
 
 pub acts : List Act
-acts = raise 1 ∷ vote ballot ∷ add one ∷ run 0 (one ∷ []) ∷ stamp ∷ stamp ∷ receipt 1 ∷ decline ∷ restart ∷ []
+acts = raise 1 ∷ vote ballot ∷ vote ballot ∷ add one ∷ run 0 (one ∷ []) ∷ stamp ∷ stamp ∷ receipt 1 ∷ decline ∷ restart ∷ []
 
 unfoldable pub both : List (List ℕ)
 both = sampleSubmission ∷ sampleSubmission ∷ []
@@ -58,7 +58,7 @@ buffer = replicate 53 0
 
 -- the acts keep the rules
 pub kept : keeps (formOf three) (replicas three) first acts ≡ true
-unfolding three one ballot acts sampleRoster sampleKey be flatMap cluster replicas numberAt number formOf version1 first keeps allowed all rules after fitsTerm fitsIndex fitsRecords oneCandidate noStamp noStaler rising staler
+unfolding three one ballot acts sampleRoster sampleKey be flatMap cluster replicas numberAt number formOf version1 first keeps allowed all rules after fitsTerm fitsIndex fitsRecords sameRequest oneRequest same noStamp noStaler rising staler
     lastTerm termFrom
 kept = refl
 
