@@ -37,7 +37,10 @@ pub fn tenure_at(s: &[u8], width: usize, later: usize, at: usize, next: usize) -
     ensures { λ r. ⌜ r ≡ inner.tenureAt width (now (s .entry)) later at next ⌝ }
 {
     let c = submission_parts::numbers_at(s, at, width);
-    let pointer = lm_hash::value_at(s, at + TERM_AT + width + width + log_chain::INDEX_SIZE).bytes();
+    let pointer = lm_hash::value_at(
+        s,
+        at + TERM_AT + width + width + log_chain::INDEX_SIZE,
+    ).bytes();
     let end = end_at(s, width, later, next);
     Tenure {
         candidate: c.candidate,

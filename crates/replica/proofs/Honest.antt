@@ -221,12 +221,11 @@ module _ (form : Form) (n : ℕ) where
 
   two-votes : (a b : Ballot) → (a .term ≡ b .term → a ≡ b) → twoVotes a b ≡ false
   unfolding twoVotes
-  two-votes a b h = go (look (eqb (a .term) (b .term)))
-    where
-      go : (eqb (a .term) (b .term) ≡ true) ⊎ (eqb (a .term) (b .term) ≡ false)
-          → cond (eqb (a .term) (b .term)) (not (sameRequest a b)) false ≡ false
-      go (inl e) = rw (e, vote-request a b (h (eqb-true _ _ e)))
-      go (inr e) = rw e
+  two-votes a b h =
+      ⊎-elim
+      (λ (e : eqb (a .term) (b .term) ≡ true). rw (e, vote-request a b (h (eqb-true _ _ e))) refl)
+      (λ (e : eqb (a .term) (b .term) ≡ false). rw e refl)
+      (look (eqb (a .term) (b .term)))
 
   free-votes : (a b : Ballot) → (a .term ≡ b .term → a ≡ b) → Free (voted a) (voted b)
   unfolding clash
