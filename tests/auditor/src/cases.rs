@@ -12,6 +12,7 @@ mod leaders;
 mod order;
 mod pairs;
 mod reports;
+pub mod requests;
 mod rosters;
 mod rules;
 mod signers;
@@ -120,6 +121,7 @@ pub fn run(seed: u64, size: Size, take: &mut dyn FnMut(&Case)) {
     cases.worked_examples();
     cases.missed_faults();
     cases.rules();
+    cases.requests();
     cases.reports();
     cases.rosters();
     cases.sizes();

@@ -93,7 +93,7 @@ impl Cases<'_> {
     }
 
     /// q replicas, sometimes one more.
-    fn some_quorum(&mut self, signer: &Signer) -> u16 {
+    pub fn some_quorum(&mut self, signer: &Signer) -> u16 {
         let mut replicas: Vec<u16> = (1..=signer.n() as u16).collect();
         crate::district::shuffle(&mut replicas, &mut self.random);
         let count = signer.quorum() + usize::from(self.random.below(5) == 0);

@@ -27,20 +27,47 @@ pub fn leaves_shared(signatures: &[(u16, Vec<u8>, Vec<u8>)]) -> Option<String> {
     None
 }
 
-/// The signatures of both submissions of an accepted case.
-fn signatures(case: &Case, verdicts: &mut Verdicts) -> Vec<(u16, Vec<u8>, Vec<u8>)> {
+/// Both submissions of an accepted case.
+fn read(case: &Case, verdicts: &mut Verdicts) -> [Submission; 2] {
     let roster = Roster::read(case.roster).expect("a roster");
-    let mut signatures = Vec::new();
-    for bytes in [case.first, case.second] {
-        let read = Submission::read(&roster, bytes, verdicts).expect("it is accepted");
-        let slots = read.slots(&roster.name).into_iter();
-        signatures.extend(slots.map(|s| (s.replica, s.statement, s.signature.to_vec())));
-    }
-    signatures
+    [case.first, case.second]
+        .map(|bytes| Submission::read(&roster, bytes, verdicts).expect("it is accepted"))
 }
 
-/// Runs the set and returns how often each number came up.
-fn counts(seed: u64, size: Size) -> [usize; 16] {
+/// Their signatures.
+fn signatures(case: &Case, two: &[Submission; 2]) -> Vec<(u16, Vec<u8>, Vec<u8>)> {
+    let roster = Roster::read(case.roster).expect("a roster");
+    let slots = two.iter().flat_map(|one| one.slots(&roster.name));
+    slots.map(|s| (s.replica, s.statement, s.signature.to_vec())).collect()
+}
+
+/// Whether two certificates of one term, with a signer in common, are for requests that differ in
+/// the candidate alone; and with one candidate in the last term and not the index, in the last
+/// index and not the term, in the last pointer alone, and in all of the three.
+fn two_requests([first, second]: &[Submission; 2]) -> [bool; 5] {
+    let mut found = [false; 5];
+    for a in &first.leaders {
+        for b in second.leaders.iter().filter(|b| b.signers & a.signers != 0) {
+            let (a, b) = (a.vote, b.vote);
+            if a.term == b.term {
+                let ends = [a, b].map(|vote| (vote.last_term, vote.last_index, vote.last_pointer));
+                let one = a.candidate == b.candidate;
+                let (term, index) = (ends[0].0 != ends[1].0, ends[0].1 != ends[1].1);
+                found[0] |= !one && ends[0] == ends[1];
+                found[1] |= one && term && !index;
+                found[2] |= one && index && !term;
+                found[3] |= one && !term && !index && ends[0].2 != ends[1].2;
+                found[4] |= one && term && index;
+            }
+        }
+    }
+    found
+}
+
+/// Runs the set and returns how often each number came up, and among the cases that are drawn each
+/// way in which two requests differ.
+fn counts(seed: u64, size: Size) -> ([usize; 16], [usize; 5]) {
+    let mut requests = [0; 5];
     let mut verdicts = Verdicts::default();
     let mut counts = [0; 16];
     let mut broken = Vec::new();
@@ -58,7 +85,13 @@ fn counts(seed: u64, size: Size) -> [usize; 16] {
         let asked = verdicts.asked;
         let found = findings(case.roster, case.first, case.second, &mut verdicts);
         if number == 0 {
-            let signatures = signatures(case, &mut verdicts);
+            let two = read(case, &mut verdicts);
+            if ["loose", "drawn", "district"].iter().any(|drawn| case.name.starts_with(drawn)) {
+                for (count, found) in requests.iter_mut().zip(two_requests(&two)) {
+                    *count += usize::from(found);
+                }
+            }
+            let signatures = signatures(case, &two);
             signed += signatures.len();
             broken.extend(leaves_shared(&signatures).map(|why| format!("{}: {why}", case.name)));
         }
@@ -80,21 +113,24 @@ fn counts(seed: u64, size: Size) -> [usize; 16] {
     for (number, count) in counts.iter().enumerate() {
         println!("number {number}: {count}");
     }
-    counts
+    println!("two requests, drawn: {requests:?}");
+    (counts, requests)
 }
 
 #[test]
 fn full_set() {
-    let counts = counts(1, Size::Full);
+    let (counts, requests) = counts(1, Size::Full);
     assert!(counts.iter().sum::<usize>() >= 5000);
     assert!(counts.iter().all(|count| *count >= 20));
+    assert!(requests.iter().all(|count| *count >= 40));
 }
 
 #[test]
 fn small_set() {
-    let counts = counts(2, Size::Small);
+    let (counts, requests) = counts(2, Size::Small);
     assert!(counts.iter().sum::<usize>() >= 500);
     assert!(counts.iter().all(|count| *count >= 1));
+    assert!(requests.iter().all(|count| *count >= 3));
 }
 
 /// One leaf for two messages, and two signatures of one message, are noticed; the same signature in
