@@ -10,6 +10,7 @@ mod order;
 mod places;
 pub mod refused;
 mod reports;
+mod requests;
 mod sums;
 
 use super::{report_size, Findings};
@@ -92,6 +93,7 @@ pub fn run(seed: u64, size: Size, take: &mut dyn FnMut(&Case)) {
     cases.refused();
     cases.forks();
     cases.named();
+    cases.requests();
     cases.places();
     cases.nine_of_nine();
     cases.damaged();

@@ -92,6 +92,26 @@ fn union() {
     assert_eq!(found(&signer, &[&two, &none, &none, &three]), "fork 0 0\nboard 3\n");
 }
 
+/// Document 02, W4: replica 2 votes in term 4 for two requests of replica 1, on (1, 1) and on (1,
+/// 2); a third log of term 1 charges its leader, replica 3, alone.
+#[test]
+fn two_requests() {
+    let signer = signer();
+    let leaders = [(3, 0b110), (1, 0b011)];
+    let made = |records: &[(u32, &str)]| {
+        signer.submission(&log(records), &leaders[..records.len().min(2)], None)
+    };
+    let one = made(&[(1, "a"), (4, "z")]);
+    let two = made(&[(1, "a"), (1, "b"), (4, "z")]);
+    let other = made(&[(1, "x")]);
+    assert_eq!(found(&signer, &[&one, &two]), "fork 0 0\nboard 1\nboard 2\n");
+    assert_eq!(found(&signer, &[&two, &one]), "fork 0 0\nboard 1\nboard 2\n");
+    assert_eq!(found(&signer, &[&one, &other]), "fork 0 0\nboard 3\n");
+    assert_eq!(found(&signer, &[&one, &one, &other]), "fork 0 0\nboard 3\n");
+    let union = "fork 0 0\nboard 1\nboard 2\nboard 3\n";
+    assert_eq!(found(&signer, &[&one, &other, &two]), union);
+}
+
 /// The same submission twice is no fork, and a stale vote counts in either order.
 #[test]
 fn twice_and_exchanged() {

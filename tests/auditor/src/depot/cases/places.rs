@@ -2,11 +2,14 @@
 //! nothing can be charged in any other pair.
 
 use super::refused::{number_in_turn, refused};
+use super::requests::VOTER_OF_3;
 use super::{found, Cases};
 use crate::build::{log, Draft};
 use crate::cases::empty;
+use crate::cases::requests::{two_requests, FIELDS};
 use crate::cases::worked_examples::{one_leader, stale_leader};
 use crate::depot::{FEWEST, MOST};
+use crate::roster::mask_of;
 use crate::signer::Signer;
 
 /// Two submissions, who is named in the pair, and whether it forks.
@@ -21,18 +24,22 @@ enum Others {
 }
 
 /// Replica 1 stamps two logs; replica 2 votes for a staler log, in one order of the pair or in the
-/// other; replica 3 votes twice, and nothing is committed.
-fn pairs(signer: &Signer) -> [(&'static str, Two); 4] {
+/// other; replica 3 votes for two candidates, and nothing is committed; replica 2 votes for two
+/// requests of replica 1, and replica 3, who led the term before, stamps two logs.
+fn pairs(signer: &Signer) -> [(&'static str, Two); 5] {
     let (a, b) = one_leader(&signer.clone());
     let (first, second) = stale_leader(&signer.clone());
     let elected = signer.clone();
     let elect =
         |candidate, signers| elected.submission(&log(&[(4, "a")]), &[(candidate, signers)], None);
+    let signers = VOTER_OF_3.quorums.map(mask_of);
+    let [one, other] = two_requests(&signer.clone(), &FIELDS[3], &VOTER_OF_3, signers, None);
     [
         ("two stamps", (a, b, 0b001, true)),
         ("a stale vote", (first.clone(), second.clone(), 0b010, true)),
         ("a stale vote, exchanged", (second, first, 0b010, true)),
         ("two votes", (elect(1, 0b101), elect(3, 0b110), 0b100, false)),
+        ("two requests", (one, other, 0b111, false)),
     ]
 }
 
