@@ -7,7 +7,7 @@ mod replica;
 mod signed;
 
 use crate::assemble::items::Item;
-use crate::build::Draft;
+use crate::build::{ends, Draft};
 use crate::cluster::Cluster;
 use crate::random::Random;
 use crate::roster::{mask_of, quorum, replicas_of};
@@ -95,18 +95,26 @@ impl District {
             if !cheating.contains(number) {
                 continue;
             }
-            match random.below(8) {
+            match random.below(12) {
                 0 => life.replica.cheats.votes_twice = true,
                 1 => life.replica.cheats.votes_for_staler = true,
                 2 => life.replica.cheats.rewrites = true,
                 3 => life.replica.cheats.forgets = true,
                 4 => self.shared |= mask_of(&[*number]),
-                5 => {
+                5 | 6 => {
                     life.replica.cheats = Cheats {
                         votes_twice: true,
                         votes_for_staler: true,
                         rewrites: true,
-                        forgets: false,
+                        ..Cheats::default()
+                    }
+                }
+                7..=9 => {
+                    life.replica.cheats = Cheats {
+                        votes_twice: true,
+                        votes_for_staler: true,
+                        asks_twice: true,
+                        ..Cheats::default()
                     }
                 }
                 _ => {
@@ -138,19 +146,46 @@ impl District {
         listeners
     }
 
-    /// Somebody stands for election; whoever hears it votes if it may.
+    /// Somebody stands for election.
     fn elect(&mut self, side: usize, random: &mut Random) {
         let listeners = self.listeners(side, random);
         let Some(life) = listeners.first().copied() else {
             return;
         };
         let candidate = &self.lives[life].replica;
-        let (last_term, last_index) = candidate.end();
         let term = match random.below(6) {
             0 => candidate.term,
             1 => candidate.term + 2,
             _ => candidate.term + 1,
         };
+        self.stand(side, life, term, listeners);
+    }
+
+    /// A leader that cheats goes to the other side, and stands there again in its term, on the end
+    /// of an earlier term of its log than before; whoever votes twice hears it on either side.
+    /// Elected, it leads on from there.
+    fn ask_again(&mut self, life: usize, vote: Vote, random: &mut Random) {
+        let asking = &mut self.lives[life];
+        let mut ends = ends(&asking.replica.log);
+        ends.retain(|end| *end < vote.last_index as usize);
+        ends.push(0);
+        asking.side = 1 - asking.side;
+        asking.replica.log.truncate(ends[random.below(ends.len())]);
+        let side = asking.side;
+        let mut listeners = self.listeners(side, random);
+        let willing = |i: &usize| self.lives[*i].replica.cheats.votes_twice;
+        listeners.retain(|i| !willing(i));
+        listeners.extend((0..self.lives.len()).filter(willing));
+        self.stand(side, life, vote.term, listeners);
+        if self.leads(side) {
+            self.lead_on(side, random);
+        }
+    }
+
+    /// A life stands for election in a term; whoever hears it votes if it may.
+    fn stand(&mut self, side: usize, life: usize, term: u32, listeners: Vec<usize>) {
+        let candidate = &self.lives[life].replica;
+        let (last_term, last_index) = candidate.end();
         let last_pointer = pointers(&candidate.log)[last_index as usize];
         let vote = Vote { candidate: candidate.number, term, last_term, last_index, last_pointer };
         for i in listeners {
@@ -175,8 +210,21 @@ impl District {
         })
     }
 
-    /// The side's leader adds records, stamps, and hands its log on for receipts.
+    /// The side's leader asks again, if it cheats so and has stamped, or leads on.
     fn lead(&mut self, side: usize, random: &mut Random) {
+        let Some((life, vote)) = self.leaders[side] else {
+            return;
+        };
+        let leader = &self.lives[life].replica;
+        let stamped = leader.last_stamp == Some(vote.term) && vote.last_index > 0;
+        if leader.cheats.asks_twice && stamped && random.below(2) == 0 {
+            return self.ask_again(life, vote, random);
+        }
+        self.lead_on(side, random);
+    }
+
+    /// The side's leader adds records, stamps, and hands its log on for receipts.
+    fn lead_on(&mut self, side: usize, random: &mut Random) {
         let Some((life, vote)) = self.leaders[side] else {
             return;
         };
@@ -286,8 +334,8 @@ impl District {
         Signer::after(cluster, (1..=self.n as u16).map(written).collect())
     }
 
-    /// All that was signed, each statement with the leaf that its replica signed it by. The cluster's
-    /// keys have to have as many leaves from 0 on.
+    /// All that was signed, each statement with the leaf that its replica signed it by. The
+    /// cluster's keys have to have as many leaves from 0 on.
     pub fn items(&self, cluster: &Cluster) -> Vec<Item> {
         let mut items = Vec::new();
         for replica in 1..=self.n as u16 {

@@ -1,5 +1,5 @@
-//! The premises of fairness (demand 3), asked of a replica's list of acts and of submissions, two or
-//! more, in document 01's words.
+//! The premises of fairness (demand 3), asked of a replica's list of acts and of submissions, two
+//! or more, in document 01's words.
 
 use super::replica::{Act, Replica};
 use crate::bytes::u32_at;
@@ -94,6 +94,7 @@ mod tests {
     use crate::cluster::{Cluster, Keys};
     use crate::roster::Roster;
     use crate::signer::Signer;
+    use crate::statement::Vote;
     use std::rc::Rc;
 
     /// A replica that votes for itself, adds a record, stamps it and gives a receipt for it; and
@@ -152,5 +153,29 @@ mod tests {
         assert_eq!(past.own_signatures(roster.key(1), &roster.name, &two, &mut verdicts), None);
         assert!(Past::of(&[Act::Raise(2), Act::Raise(1)], 3, &roster.name).is_none());
         assert!(Past::of(&[Act::Raise(1), Act::Stamp], 3, &roster.name).is_none());
+    }
+
+    /// Votes of one term are for one request, as often as it is given; another one in the same
+    /// term, whatever it differs in, is no act of a replica that keeps the rules.
+    #[test]
+    fn one_request() {
+        let kept = |votes: &[Vote]| {
+            let acts: Vec<Act> = votes.iter().map(|vote| Act::Vote(*vote)).collect();
+            Past::of(&acts, 3, &[7; 16]).is_some()
+        };
+        let vote =
+            Vote { candidate: 2, term: 4, last_term: 3, last_index: 5, last_pointer: [9; 32] };
+        let others = [
+            Vote { candidate: 1, ..vote },
+            Vote { last_term: 2, ..vote },
+            Vote { last_index: 6, ..vote },
+            Vote { last_pointer: [8; 32], ..vote },
+        ];
+        assert!(kept(&[vote, vote]));
+        for other in others {
+            assert!(!kept(&[vote, other]) && !kept(&[other, vote]), "{other:?}");
+            assert!(!kept(&[vote, vote, other]), "{other:?}");
+            assert!(kept(&[vote, Vote { term: 5, ..other }]), "{other:?}");
+        }
     }
 }

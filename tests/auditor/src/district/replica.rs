@@ -9,6 +9,8 @@ use crate::statement::{pointers, Position, Record, Vote};
 pub struct Cheats {
     /// It votes for a second request in one term, be it of the same candidate.
     pub votes_twice: bool,
+    /// As a leader it stands again in its term, with less of its log.
+    pub asks_twice: bool,
     /// It votes for a candidate whose log is staler than its own.
     pub votes_for_staler: bool,
     /// It takes a run although it has stamped in this term.

@@ -2,16 +2,18 @@
 //! named for every fork.
 
 use super::*;
-use crate::audit::{compare, findings, Findings};
+use crate::audit::{compare, findings, Charge, Findings};
 use crate::cluster::Keys;
 use crate::verdicts::Verdicts;
 
-/// How many pairs and forks there were, and how many charges by each rule.
+/// How many pairs and forks there were, how many charges by each rule, and how many of those by
+/// rule 1 are for two requests of one candidate.
 #[derive(Debug, Default)]
 struct Tally {
     pairs: usize,
     forks: usize,
     rules: [usize; 5],
+    requests: usize,
 }
 
 impl Tally {
@@ -24,6 +26,13 @@ impl Tally {
         self.forks += usize::from(found.fork != 0);
         for charge in found.rows.iter().flatten() {
             self.rules[charge.rule as usize] += 1;
+            let led = |claim: &Claim| {
+                let leaders = claim.unsigned().leaders;
+                leaders.into_iter().map(|l| l.vote).find(|vote| vote.term == charge.term)
+            };
+            if let (1, Some(a), Some(b)) = (charge.rule, led(two.0), led(two.1)) {
+                self.requests += usize::from(a.candidate == b.candidate);
+            }
         }
     }
 }
@@ -53,7 +62,7 @@ fn districts() {
     }
     println!("{tally:?}");
     assert!(tally.pairs >= 60 && tally.forks >= 10);
-    assert!(tally.rules[1..].iter().all(|count| *count > 0));
+    assert!(tally.rules[1..].iter().all(|count| *count > 0) && tally.requests > 0);
 }
 
 /// The same claims as accepted submissions, without signatures: many more districts, of every
@@ -75,8 +84,46 @@ fn many_districts() {
         }
         println!("n = {n}: {tally:?}");
         assert!(tally.pairs >= 500 && tally.forks >= 50);
-        assert!(tally.rules[1..].iter().all(|count| *count >= 10));
+        assert!(tally.rules[1..].iter().all(|count| *count >= 10) && tally.requests >= 5);
     }
+}
+
+/// Replica 1 asks twice in term 4, with the log that replica 3 led in term 1 and with an empty one.
+/// Replica 2, whose log is empty, may vote for either, and not for both: it is named if it does,
+/// and both votes are shown. Replica 3 may vote for the longer log only.
+#[test]
+fn asked_twice() {
+    let record = |term, payload: &[u8]| Record { term, payload: sha256(&[payload]) };
+    let (long, short) = ([record(1, b"a"), record(4, b"y")], [record(4, b"z")]);
+    let claim = |records: &[Record], leaders: &[(u16, u16)]| Claim {
+        records: records.to_vec(),
+        leaders: leaders.to_vec(),
+        commit: None,
+    };
+    let signed_by = |signers| claim(&long, &[(3, 0b101), (1, signers)]);
+    let other = claim(&short, &[(1, 0b011)]);
+    let [first, second] = [&signed_by(0b101), &other]
+        .map(|claim| claim.unsigned().leaders.pop().expect("a leader").vote);
+    let mut three = [1, 2, 3].map(Replica::new);
+    let elected = signed_by(0b101).unsigned().leaders[0].vote;
+    for k in [0, 2] {
+        assert!(three[k].vote(&elected, 3) && three[k].take(0, &long[..1]));
+    }
+    assert!(three[2].vote(&first, 3) && !three[2].vote(&second, 3), "a staler log");
+    assert!(three[1].vote(&second, 3) && !three[1].vote(&first, 3), "a second request");
+    assert!(three[1].vote(&second, 3), "the same request");
+    let found = |a: &Claim, b: &Claim| compare(&a.unsigned(), &b.unsigned());
+    let charged = Some(Charge { rule: 1, term: 4 });
+    for (a, b) in [(&signed_by(0b101), &other), (&other, &signed_by(0b101))] {
+        assert_eq!(found(a, b).rows[..3], [charged, None, None], "replicas 2 and 3 did no wrong");
+    }
+    three[1].cheats.votes_twice = true;
+    assert!(three[1].vote(&first, 3));
+    for (a, b) in [(&signed_by(0b111), &other), (&other, &signed_by(0b111))] {
+        assert_eq!(found(a, b).rows[..3], [charged, charged, None]);
+    }
+    // As long as one of its votes is shown only, nobody knows.
+    assert_eq!(found(&signed_by(0b111), &signed_by(0b101)).named(), 0);
 }
 
 /// Without a cheat nobody is ever named, and there is no fork.
