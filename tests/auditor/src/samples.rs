@@ -112,14 +112,15 @@ fn pair(folder: &'static str, cluster: &Cluster, (first, second): (Draft, Draft)
     Pair { folder, roster: cluster.roster(), first: first.bytes(), second: second.bytes() }
 }
 
-/// What stands in the folder samples: document 01's worked pairs, and one that all but fills the
-/// buffers of the program.
+/// What stands in the folder samples: document 01's worked pairs, one for document 02's W4, and one
+/// that all but fills the buffers of the program.
 pub fn samples(cluster: &Rc<Cluster>, keys: &Keys) -> Vec<Pair> {
     let nine = keys.cluster(9, 5);
     vec![
         pair("empty", cluster, (empty(cluster), empty(cluster))),
         pair("one_leader", cluster, one_leader(&Signer::new(cluster))),
         pair("stale_leader", cluster, stale_leader(&Signer::new(cluster))),
+        pair("two_requests", cluster, two_requests(&Signer::new(cluster))),
         pair("large", &nine, filling(&Signer::new(&nine))),
     ]
 }
@@ -135,6 +136,17 @@ pub fn more_pairs(cluster: &Rc<Cluster>, keys: &Keys) -> Vec<Pair> {
         pair("most_terms", &many, large(&Signer::new(&many))),
         pair("largest", &tall, (largest(&Signer::new(&tall)), empty(&tall))),
     ]
+}
+
+/// n = 3. Replicas 1 and 2 elect replica 1 in term 2 twice: on the record that replica 3 led in
+/// term 1, and on an empty log. Each time they commit the record that follows. Replica 2 voted for
+/// one candidate only, but for two requests; replica 1 asked for them, voted for both, and stamped
+/// two logs, which is the higher rule. Replica 3 did no wrong.
+fn two_requests(signer: &Signer) -> (Draft, Draft) {
+    let first = log(&[(1, "a"), (2, "b")]);
+    let first = signer.submission(&first, &[(3, 0b110), (1, 0b011)], Some((2, 0b011)));
+    let second = signer.submission(&log(&[(2, "c")]), &[(1, 0b011)], Some((1, 0b011)));
+    (first, second)
 }
 
 /// n = 9, two terms, 182 records. The logs part at index 60: replica 1 stamps both in term 4,
@@ -207,6 +219,7 @@ mod tests {
             "refusal 0 in 0\nfork 0\n",
             "refusal 0 in 0\nfork 1\nboard 1 rule 2 term 1\n",
             "refusal 0 in 0\nfork 1\nboard 2 rule 3 term 2\n",
+            "refusal 0 in 0\nfork 1\nboard 1 rule 1 term 2\nboard 2 rule 1 term 2\n",
             "refusal 0 in 0\nfork 60\nboard 1 rule 2 term 4\nboard 5 rule 3 term 7\n\
                 board 6 rule 3 term 7\nboard 7 rule 3 term 7\n",
             "refusal 0 in 0\nfork 1\nboard 2 rule 4 term 2\n",
