@@ -50,13 +50,15 @@ fn samples() {
     }
 }
 
-/// What the rules' lines mean: rule 2 and 3 in the samples, 4 with the submissions exchanged.
+/// What the rules' lines mean: rules 1 to 3 in the samples, 4 with the submissions exchanged.
 #[test]
 fn rules() {
     let [roster, first, second] = sample("stale_leader");
     let exchanged = [roster, second, first];
     expect(&exchanged, "refusal 0 in 0\nfork 1\nboard 2 rule 4 term 2\n", 1);
     let told = |files: &[PathBuf; 3]| with_options("audit", &["--explain"], files).unfolded();
+    let one = "Board 2 cast two different votes in term 2: for two candidates, or for one candidate";
+    assert!(told(&sample("two_requests")).contains(one));
     let two = "Board 1 stamped two logs as leader of term 1";
     assert!(told(&sample("one_leader")).contains(two));
     let three = "receipt for a record, which the first submission has, and later, in term 2,";
