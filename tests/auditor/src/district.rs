@@ -1,5 +1,5 @@
-//! A simulated district: replicas that act by document 01's board rules, honest and cheating,
-//! and the submissions that what they signed allows.
+//! A simulated district: replicas that act by document 01's board rules, with document 02's W4,
+//! honest and cheating, and the submissions that what they signed allows.
 
 pub mod acts;
 pub mod premises;
