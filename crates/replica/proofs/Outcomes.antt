@@ -2,7 +2,7 @@
 -- Assumes nothing.
 use mathlib.Core.Path.{_≡_, refl}
 use mathlib.Core.Bool.{cond}
-use mathlib.Core.List.{_++_, map}
+use mathlib.Core.List.{map}
 use mathlib.Core.Option.{Option, some, none}
 use lib.ListN.{replicate}
 use Rattle.words.specs.BigEndian.{same}

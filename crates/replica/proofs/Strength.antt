@@ -3,7 +3,7 @@
 -- Assumes nothing.
 use mathlib.Core.Path.{_≡_, refl}
 use mathlib.Core.Bool.{true, false}
-use mathlib.Core.List.{List, [], _∷_, List·Memᴰ, List·Memᴰ·head, List·Memᴰ·not-nil}
+use mathlib.Core.List.{List, List·Memᴰ, List·Memᴰ·head, List·Memᴰ·not-nil}
 use mathlib.Core.Logic.{⊎-elim}
 use Prim.Native.Nat.{ℕ}
 use borrow.Author.Tests.{eq-eqb}
@@ -11,7 +11,7 @@ use Rattle.refusal.proofs.Laws.{look}
 use Rattle.log_chain.specs.Log.{Form}
 use Rattle.log_chain.specs.Claim.{Ballot, voted}
 use Rattle.replica.specs.Replica.{Act, first, keeps, signed, sameRequest}
-use Rattle.replica.specs.Charges.{NeverCharged, Charge, clash, charge, twoVotes}
+use Rattle.replica.specs.Charges.{NeverCharged, clash, charge, twoVotes}
 use Rattle.replica.proofs.Honest.{request-vote}
 
 charged : (a b : Ballot) → a .term ≡ b .term → sameRequest a b ≡ false → List·Memᴰ (record { rule = 1; term = a .term }) (clash (voted a) (voted b))
