@@ -146,8 +146,8 @@ uint32_t hirelog_lms_check(const uint8_t *key, size_t key_len, const uint8_t *me
  *                 (1 byte) and the lowest term for it (4 bytes), 0 and 0 if it is not named.
  * After a refusal bytes 2 to 52 are 0. The rules, each on one statement from the first submission
  * and one from the second, and the row's term:
- *   1  HIRELOG_RULE_TWO_VOTES: two different votes of one term, for two candidates, or for one with
- *      another last term, last index or last pointer; that term;
+ *   1  HIRELOG_RULE_TWO_VOTES: two different votes of one term, for two candidates, or for one, but
+ *      not with the same last term, last index and last pointer; that term;
  *   2  HIRELOG_RULE_TWO_STAMPS: stamps of one term on logs that differ in a record that both cover;
  *      that term;
  *   3  HIRELOG_RULE_STALE_VOTE: a receipt in the first's commit certificate, and a vote of a higher

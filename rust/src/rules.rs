@@ -15,7 +15,7 @@ pub const RULES: &[Rule] = &[
     Rule {
         rule: 1,
         meaning: "Board {board} cast two different votes in term {term}: for two candidates, or \
-            for one candidate with another last term, last index or last pointer.",
+            for one candidate, but not with the same last term, last index and last pointer.",
     },
     Rule {
         rule: 2,

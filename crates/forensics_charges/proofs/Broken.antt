@@ -7,12 +7,10 @@ use Prim.Native.Nat.{ℕ, _≤_, _<_}
 use native.Mathlib.Omega.{arith}
 use borrow.Author.Tests.{eq-eqb, ne-eqb, le-leb, lt-leb, lt-ltb, le-ltb}
 use lib.Dec.{eqb, leb, ltb}
-use Rattle.words.specs.BigEndian.{same}
 use Rattle.refusal.specs.Checks.{all}
 use Rattle.refusal.proofs.Laws.{first-fails, first-holds, all-one}
 use Rattle.roster.specs.Masks.{signer}
 use Rattle.log_chain.specs.Ends.{staler}
-use Rattle.log_chain.specs.Claim.{Ballot}
 use Rattle.replica.specs.Replica.{sameRequest}
 use Rattle.replica.specs.Charges.{twoVotes}
 use Rattle.forensics_charges.specs.declared.Tenure.{Tenure}
@@ -61,27 +59,6 @@ module _ (k : ℕ) (x y : Tenure) where
     pub by-requests : x .term ≡ y .term → not (sameRequest (voteOf x) (voteOf y)) ≡ twoRequests k x y
     unfolding twoVotes voteOf
     by-requests h = by-votes (rw (eq-eqb _ _ h) refl)
-
--- one request, field by field
-module _ (a b : Ballot) where
-  pub other-candidate : (a .candidate ≡ b .candidate → ⊥) → false ≡ sameRequest a b
-  unfolding sameRequest
-  other-candidate h = first-fails _ _ (ne-eqb _ _ h)
-
-  module _ (candidate : a .candidate ≡ b .candidate) where
-    pub other-last-term : (a .lastTerm ≡ b .lastTerm → ⊥) → false ≡ sameRequest a b
-    unfolding sameRequest
-    other-last-term h = first-holds _ _ (eq-eqb _ _ candidate) (first-fails _ _ (ne-eqb _ _ h))
-
-    module _ (term : a .lastTerm ≡ b .lastTerm) where
-      pub other-last-index : (a .lastIndex ≡ b .lastIndex → ⊥) → false ≡ sameRequest a b
-      unfolding sameRequest
-      other-last-index h = first-holds _ _ (eq-eqb _ _ candidate) (first-holds _ _ (eq-eqb _ _ term) (first-fails _ _ (ne-eqb _ _ h)))
-
-      pub by-pointers : a .lastIndex ≡ b .lastIndex → same (a .lastPointer) (b .lastPointer) ≡ sameRequest a b
-      unfolding sameRequest
-      by-pointers h =
-          first-holds _ _ (eq-eqb _ _ candidate) (first-holds _ _ (eq-eqb _ _ term) (first-holds _ _ (eq-eqb _ _ h) (all-one _)))
 
 -- ---- rule 2
 

@@ -1,4 +1,4 @@
--- The four rules over the numbers that they compare (document 01, "The report").
+-- The four rules over terms and receipts (document 01, "The report"; rule 1: document 02, W4).
 use mathlib.Core.Bool.{Bool}
 use mathlib.Core.List.{[], _∷_}
 use Prim.Native.Nat.{ℕ}

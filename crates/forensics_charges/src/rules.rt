@@ -1,4 +1,5 @@
-// The four rules, on two terms or on a receipt and a term of two submissions (document 01, "The report").
+// The four rules, on two terms or on a receipt and a term of two submissions (document 01, "The report"; rule
+// 1: document 02, W4).
 ghost use mathlib.Core.Path.{_≡_};
 ghost use mathlib.Core.List.{[], _∷_};
 ghost use Prim.Native.Nat.{_<_};
@@ -33,8 +34,8 @@ fn both_signed(k: usize, first: u16, second: u16) -> bool
     roster::signer(second, k)
 }
 
-// Whether two pointers are the same. (In `same_request`, after its tests, the length of a struct's array is
-// not found.)
+// Whether two pointers are the same. A function of its own: after the tests of `same_request` the toolchain
+// does not find the length of a struct's array.
 fn same_pointer(x: [u8; log_chain::POINTER_SIZE], y: [u8; log_chain::POINTER_SIZE]) -> bool
     ensures { λ r. ⌜ r ≡ same x y ⌝ }
 {

@@ -1,5 +1,5 @@
 -- What the terms and receipts of two accepted submissions show, as they are read, is what their signatures show: the terms are the log's, a
--- replica's row is that of the numbers, and the fork is that of the first difference.
+-- replica's row is that of the tenures, and the fork is that of the first difference.
 -- Assumes nothing.
 use mathlib.Core.Path.{_≡_, sym}
 use mathlib.Core.Bool.{true}

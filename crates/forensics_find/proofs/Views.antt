@@ -1,4 +1,4 @@
--- The terms of a view as its rules compare them, and all that the rules charge a replica with from two views: what the code's numbers stand for.
+-- The terms of a view as its rules compare them, and all that the rules charge a replica with from two views: what the code's tenures stand for.
 -- Assumes nothing.
 use mathlib.Core.List.{List, map}
 use Prim.Native.Nat.{ℕ}

@@ -55,9 +55,9 @@ again b = allowed (version1 (replicate 16 0)) 3 (record { term = 4; vote = some 
 requests : (again (ballot 2 4 3 1) ≡ true) × (again (ballot 1 4 3 1) ≡ false) × (again (ballot 2 4 4 1) ≡ false) × (again (ballot 2 4 3 2) ≡ false)
     × (again (ballotOn (1 ∷ replicate 31 0) 2 4 3 1) ≡ false) × (again (ballotOn (replicate 31 0 ++ (1 ∷ [])) 2 4 3 1) ≡ false)
     × (again (ballot 2 5 3 1) ≡ true) × (again (ballot 1 5 3 1) ≡ true) × (again (ballot 2 5 4 1) ≡ true) × (again (ballot 2 5 3 2) ≡ true)
-    × (again (ballotOn (1 ∷ replicate 31 0) 2 5 3 1) ≡ true)
+    × (again (ballotOn (1 ∷ replicate 31 0) 2 5 3 1) ≡ true) × (again (ballotOn (replicate 31 0 ++ (1 ∷ [])) 2 5 3 1) ≡ true)
 unfolding again of ballot ballotOn allowed all rules same fitsTerm fitsIndex sameRequest oneRequest noStaler lastTerm termFrom staler version1
-requests = (refl, refl, refl, refl, refl, refl, refl, refl, refl, refl, refl)
+requests = (refl, refl, refl, refl, refl, refl, refl, refl, refl, refl, refl, refl)
 
 -- runs: some records kept, one or more new, terms in order and above 0, the last of its own term, no staler, no stamp in this term
 runs : (may none (run 1 (of 4 1 ∷ [])) ≡ true) × (may none (run 0 (of 4 1 ∷ of 4 2 ∷ [])) ≡ true) × (may none (run 3 (of 4 1 ∷ [])) ≡ false)

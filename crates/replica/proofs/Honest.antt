@@ -13,16 +13,16 @@ use borrow.Author.Tests.{ltb-true, eqb-true, eqb-false, leb-true, eq-eqb, not-tr
 use lib.Dec.{eqb, ltb}
 use lib.ListN.{length, take, length-append}
 use lib.Seq.{length-take-le}
-use Rattle.words.proofs.Same.{same-true, true-same}
-use Rattle.refusal.specs.Checks.{all}
+use Rattle.words.proofs.Same.{true-same}
 use Rattle.refusal.proofs.Laws.{look, cond-true, all-cons}
 use Rattle.log_chain.specs.Log.{Form, Record, termFrom, lastTerm}
 use Rattle.log_chain.specs.Ends.{rising, staler}
 use Rattle.log_chain.specs.Claim.{Ballot, Claim, stamped, received, voted}
-use Rattle.replica.specs.Replica.{State, first, keeps, signed, Act, raise, vote, run, add, stamp, receipt, decline, restart, sameRequest, oneRequest, noStamp, noStaler, rules, allowed, after, signs}
+use Rattle.replica.specs.Replica.{State, first, keeps, signed, Act, raise, vote, run, add, stamp, receipt, decline, restart, oneRequest, noStamp, noStaler, rules, allowed, after, signs}
 use Rattle.log_chain.proofs.Order.{Fresh, fresh, not-staler, fresh-trans, last-snoc, take-last-le, rising-snoc}
 use Rattle.replica.specs.Charges.{NeverCharged, clash, charge, twoVotes, twoStamps, staleVote}
 use Rattle.log_chain.specs.Difference.{agree, sameRecord}
+use Rattle.replica.proofs.Request.{request-vote, vote-request}
 
 -- ---- what a state keeps
 
@@ -108,24 +108,6 @@ begins-self l = ([], append-nil l)
 begins-more : (l m rest : List Record) → Begins l m → Begins l (m ++ rest)
 unfolding Begins
 begins-more l m rest b = (b .0 ++ rest, sym (append-assoc l (b .0) rest) ∙ ap (λ (x : List Record). x ++ rest) (b .1))
-
--- one request in one term is one vote
-pub request-vote : (a b : Ballot) → a .term ≡ b .term → sameRequest a b ≡ true → a ≡ b
-unfolding sameRequest
-request-vote a b t e =
-    let e1 = all-cons _ _ e in
-    let e2 = all-cons _ _ (e1 .1) in
-    let e3 = all-cons _ _ (e2 .1) in
-    let candidate = eqb-true _ _ (e1 .0) in
-    let term = eqb-true _ _ (e2 .0) in
-    let index = eqb-true _ _ (e3 .0) in
-    let pointer = same-true _ _ (all-cons _ _ (e3 .1) .0) in
-    λ k. record { candidate = candidate k; term = t k; lastTerm = term k; lastIndex = index k; lastPointer = pointer k }
-
-vote-request : (a b : Ballot) → a ≡ b → sameRequest a b ≡ true
-unfolding sameRequest all
-vote-request a b e =
-    rw (e, eq-eqb (b .candidate) (b .candidate) refl, eq-eqb (b .lastTerm) (b .lastTerm) refl, eq-eqb (b .lastIndex) (b .lastIndex) refl, true-same (b .lastPointer))
 
 no-charge : (b : Bool) (rule term : ℕ) → b ≡ false → charge b rule term ≡ []
 unfolding charge

@@ -1,5 +1,6 @@
 mod Examples
 pub mod Honest
+pub mod Request
 pub mod Signed
 mod Case
 mod ReplicaActs

@@ -12,7 +12,7 @@ use Rattle.log_chain.specs.Log.{Form}
 use Rattle.log_chain.specs.Claim.{Ballot, voted}
 use Rattle.replica.specs.Replica.{Act, first, keeps, signed, sameRequest}
 use Rattle.replica.specs.Charges.{NeverCharged, clash, charge, twoVotes}
-use Rattle.replica.proofs.Honest.{request-vote}
+use Rattle.replica.proofs.Request.{request-vote}
 
 charged : (a b : Ballot) → a .term ≡ b .term → sameRequest a b ≡ false → List·Memᴰ (record { rule = 1; term = a .term }) (clash (voted a) (voted b))
 unfolding clash twoVotes charge

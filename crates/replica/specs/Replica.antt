@@ -51,7 +51,7 @@ fitsRecords form (r ∷ log) =
 
 -- ---- the rules, one to a line
 
--- document 02, W4: a vote is for a request: candidate, last term, last index, last pointer
+-- for one request (document 02, W4): the same candidate, last term, last index and last pointer
 unfoldable pub sameRequest : Ballot → Ballot → Bool
 sameRequest a b =
     all (

@@ -1,5 +1,5 @@
--- The premises of fairness, met all at once by one example: three replicas, two accepted submissions with empty logs, and a replica that raises its term, votes,
--- adds a record, stamps it and gives a receipt for it. That rules out that `Fairness` holds only because nothing meets its premises: board rules that no such acts
+-- The premises of fairness, met all at once by one example: three replicas, two accepted submissions with empty logs, and a replica that raises its term, votes
+-- twice, adds a record, stamps it and gives a receipt for it. That rules out that `Fairness` holds only because nothing meets its premises: board rules that no such acts
 -- keep, strings that are never apart, or one premise against another. It does not show more: no signature stands in these submissions, so that
 -- `OwnSignatures` asks nothing here, and no replica is named.
 -- Assumes nothing.

@@ -127,7 +127,7 @@ impl Cases<'_> {
         self.drawn_requests();
     }
 
-    /// In both orders, for there is no commit whose vote could be stale.
+    /// In both orders: no vote is stale, so that rules 3 and 4 say nothing.
     fn both_orders(&mut self, name: &str, signer: &Signer, [a, b]: &[Draft; 2], rest: &str) {
         self.lines(name, signer, a, b, rest);
         self.lines(&format!("{name}, exchanged"), signer, b, a, rest);

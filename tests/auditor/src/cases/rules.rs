@@ -68,7 +68,8 @@ fn rule_1_later(signer: &Signer) -> Made {
 
 /// The logs part at index 2, so term 1's stamps are right and those of terms 2 and 3 are not. Term
 /// 2 has one request, elected on (1, 1) of both; term 3 has two, on the (2, 2) of the one and of
-/// the other, and replica 1 signed both. Rule 1 is lower than rule 2, though its term is not.
+/// the other, and replica 1 signed both. Rule 1 is lower than rule 2, though its term is not; and
+/// whoever breaks rule 2 in two terms has voted for two requests in the later one.
 fn rule_2_twice(signer: &Signer) -> Made {
     let first = log(&[(1, "a"), (2, "b"), (3, "c")]);
     let second = log(&[(1, "a"), (2, "x"), (3, "c")]);

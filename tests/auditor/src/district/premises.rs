@@ -1,5 +1,5 @@
 //! The premises of fairness (demand 3), asked of a replica's list of acts and of submissions, two
-//! or more, in document 01's words.
+//! or more, in document 01's words, with document 02's W4.
 
 use super::replica::{Act, Replica};
 use crate::bytes::u32_at;

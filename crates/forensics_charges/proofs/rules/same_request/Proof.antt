@@ -1,8 +1,8 @@
 -- Each field that differs ends the comparison, and the pointers decide.
 -- Assumes nothing.
 use mathlib.Core.Path.{_∙_}
+use Rattle.replica.proofs.Request.{other-candidate, other-last-term, other-last-index, by-pointers}
 use Rattle.forensics_charges.specs.Rules.{voteOf}
-use Rattle.forensics_charges.proofs.Broken.{other-candidate, other-last-term, other-last-index, by-pointers}
 use borrow.Author.Needs.{needs}
 use Rattle.forensics_charges.proofs.rules.same_request.Statement.{statement}
 use Rattle.forensics_charges.proofs.rules.same_request.Tie as tie
@@ -22,9 +22,10 @@ returns-3 c = other-last-index _ _ (c .before .before .before .before .before .b
 returns-4 : tie.Need-returns-4
 unfolding voteOf
 returns-4 c =
-    c .same-pointer .ensures
-    ∙ by-pointers _ _ (c .before .before .before .before .before .before .before .before .before .if1 .left)
-    (c .before .before .before .before .before .before .if2 .left) (c .before .before .before .if3 .left)
+    let third = c .before .before .before in
+    let second = third .before .before .before in
+    let first = second .before .before .before in
+    c .same-pointer .ensures ∙ by-pointers _ _ (first .if1 .left) (second .if2 .left) (third .if3 .left)
 
 pub same-request-spec : {M : Type 1} → statement M
 same-request-spec = tie.close (tie.spec returns returns-2 returns-3 (λ c κs. search needs) returns-4)
