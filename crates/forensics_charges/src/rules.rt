@@ -4,7 +4,6 @@ ghost use mathlib.Core.Path.{_≡_};
 ghost use mathlib.Core.List.{[], _∷_};
 ghost use Prim.Native.Nat.{_<_};
 ghost use lib.Dec.{eqb, leb, ltb};
-ghost use Rattle.words.specs.BigEndian.{same};
 ghost use Rattle.refusal.specs.Checks.{all};
 ghost use Rattle.roster.specs.Masks.{signer};
 ghost use Rattle.log_chain.specs.Ends as ends;
@@ -34,14 +33,6 @@ fn both_signed(k: usize, first: u16, second: u16) -> bool
     roster::signer(second, k)
 }
 
-// Whether two pointers are the same. A function of its own: after the tests of `same_request` the toolchain
-// does not find the length of a struct's array.
-fn same_pointer(x: [u8; log_chain::POINTER_SIZE], y: [u8; log_chain::POINTER_SIZE]) -> bool
-    ensures { λ r. ⌜ r ≡ same x y ⌝ }
-{
-    check::same(&x, &y)
-}
-
 // Whether the votes of two terms are for one request: candidate, last term, last index and last pointer.
 fn same_request(x: Tenure, y: Tenure) -> bool
     ensures { λ r. ⌜ r ≡ sameRequest (inner.voteOf x) (inner.voteOf y) ⌝ }
@@ -55,9 +46,7 @@ fn same_request(x: Tenure, y: Tenure) -> bool
     if x.last_index != y.last_index {
         return false;
     }
-    let first = x.last_pointer;
-    let second = y.last_pointer;
-    same_pointer(first, second)
+    check::same(&x.last_pointer, &y.last_pointer)
 }
 
 // Rule 1: whether replica k voted for different requests in one term.
