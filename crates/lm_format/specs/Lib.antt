@@ -1,3 +1,5 @@
 pub mod Format
 pub mod Formed
+pub mod Leaf
+pub mod Uses
 pub mod Bounds
