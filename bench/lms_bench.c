@@ -43,8 +43,9 @@ static _Noreturn void stop(const char *why, const char *what)
 
 static int ours(const struct lms_vector *v)
 {
-    return hirelog_lms_check(v->key, v->key_len, v->message, v->message_len, v->signature,
-                             v->signature_len) == HIRELOG_OK;
+    struct hirelog_lms_answer answer = hirelog_lms_check(
+        v->key, v->key_len, v->message, v->message_len, v->signature, v->signature_len);
+    return answer.number == HIRELOG_OK;
 }
 
 static int portable(const struct lms_vector *v)

@@ -30,8 +30,9 @@ static struct work work;
 
 static int check(void)
 {
-    return hirelog_lms_check(key.bytes, key.len, message.bytes, message.len, signature.bytes,
-                             signature.len) == HIRELOG_OK;
+    struct hirelog_lms_answer answer = hirelog_lms_check(
+        key.bytes, key.len, message.bytes, message.len, signature.bytes, signature.len);
+    return answer.number == HIRELOG_OK;
 }
 
 static int digest(void)

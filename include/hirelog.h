@@ -91,16 +91,26 @@ extern "C" {
 uint32_t hirelog_sha256(const uint8_t *message, size_t message_len,
                         uint8_t digest[HIRELOG_DIGEST_SIZE]);
 
+/* What the signature check returns. */
+struct hirelog_lms_answer {
+    uint32_t number; /* HIRELOG_OK, HIRELOG_BAD_SIGNATURE or HIRELOG_LONG_MESSAGE */
+    uint32_t leaf;   /* the leaf's number, from 0 on; 0 with any number but HIRELOG_OK */
+};
+
 /*
  * Whether an LMS signature (RFC 8554, algorithm 6) of the first message_len bytes at message is
- * good for a public key. Key and signature are those of LMS itself, not of HSS.
+ * good for a public key, and with which of the key's leaves it was made. Key and signature are those
+ * of LMS itself, not of HSS.
  *
- * Returns
+ * Returns, by value, a number and a leaf. The number is
  *   HIRELOG_LONG_MESSAGE   if message_len is above HIRELOG_MESSAGE_MAX, whatever the key and the
  *                          signature are;
  *   HIRELOG_OK             else, if the signature is good: algorithm 6 accepts it;
  *   HIRELOG_BAD_SIGNATURE  else.
- * No other number is returned.
+ * No other number is returned. A leaf is one of the key's one-time keys, each for one message. With
+ * HIRELOG_OK the answer's leaf is the number of the one that the signature was made with, below 2 to
+ * the power of the tree's height; with any other number it is 0, whatever the signature says. 0 is a
+ * leaf too: look at the number first.
  *
  * The types known are those of SHA-256 with 32 bytes: one-time types 1 to 4 (digit widths 1, 2, 4
  * and 8) and tree types 5 to 9 (heights 5, 10, 15, 20 and 25). A signature is bad if
@@ -118,12 +128,14 @@ uint32_t hirelog_sha256(const uint8_t *message, size_t message_len,
  *   - no other thread writes any of them during the call.
  * No pointer has to be aligned, and the three may overlap.
  *
- * No byte outside the three is read, and nothing is written: the answer is the number alone. No
+ * No byte outside the three is read, and nothing is written: the answer is what is returned. No
  * state is kept from one call to the next, so several threads may call this at the same time, and
- * may share a key, a message and a signature. That a leaf number was used twice is not noticed.
+ * may share a key, a message and a signature. A call sees one signature: that a leaf was used for
+ * two messages shows in the leaves of several.
  */
-uint32_t hirelog_lms_check(const uint8_t *key, size_t key_len, const uint8_t *message,
-                           size_t message_len, const uint8_t *signature, size_t signature_len);
+struct hirelog_lms_answer hirelog_lms_check(const uint8_t *key, size_t key_len,
+                                            const uint8_t *message, size_t message_len,
+                                            const uint8_t *signature, size_t signature_len);
 
 /*
  * The audit of two submissions against a roster (document 01): which replicas, that paper's boards,

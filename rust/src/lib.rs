@@ -1,7 +1,7 @@
 //! A safe wrapper of libhirelog.a: its services over slices, with plain values as answers.
 //!
 //! `include/hirelog.h` has each service's rules, and document 01 what they mean; document 02 for a
-//! district's run (W1) and for the assembling of a submission (W3).
+//! district's run (W1), for the assembling of a submission (W3) and for leaves (W5).
 
 mod assemble;
 mod district;
@@ -27,7 +27,10 @@ pub const MESSAGE_MAX: usize = 16_777_216;
 /// What a signature check says.
 #[derive(Clone, Copy, Debug, PartialEq, Eq)]
 pub enum Verdict {
-    Good,
+    /// Made with this leaf of the key, a number from 0 on. A leaf is for one message.
+    Good {
+        leaf: u32,
+    },
     Bad,
     /// The message is longer than `MESSAGE_MAX`: neither good nor bad.
     LongMessage,
@@ -41,10 +44,11 @@ pub fn sha256(message: &[u8]) -> Option<[u8; 32]> {
     (number == sys::OK).then_some(digest)
 }
 
-/// Whether an LMS signature (RFC 8554) of the message is good for the key.
+/// Whether an LMS signature (RFC 8554) of the message is good for the key, and with which leaf it
+/// was made.
 pub fn lms_check(key: &[u8], message: &[u8], signature: &[u8]) -> Verdict {
     // SAFETY: each pointer is a slice's, with the slice's length.
-    let number = unsafe {
+    let answer = unsafe {
         sys::hirelog_lms_check(
             key.as_ptr(),
             key.len(),
@@ -54,8 +58,8 @@ pub fn lms_check(key: &[u8], message: &[u8], signature: &[u8]) -> Verdict {
             signature.len(),
         )
     };
-    match number {
-        sys::OK => Verdict::Good,
+    match answer.number {
+        sys::OK => Verdict::Good { leaf: answer.leaf },
         sys::LONG_MESSAGE => Verdict::LongMessage,
         _ => Verdict::Bad,
     }

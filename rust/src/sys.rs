@@ -16,6 +16,15 @@ pub const RULE_TWO_STAMPS: u8 = 2;
 pub const RULE_STALE_VOTE: u8 = 3;
 pub const RULE_STALE_VOTE_EXCHANGED: u8 = 4;
 
+/// What the signature check returns: struct hirelog_lms_answer.
+#[repr(C)]
+#[derive(Clone, Copy, Debug, PartialEq, Eq)]
+pub struct LmsAnswer {
+    pub number: u32,
+    /// The number of a good signature's leaf, from 0 on; 0 with any number but 0.
+    pub leaf: u32,
+}
+
 /// What a call returns that writes bytes whose length the caller does not know beforehand: struct
 /// hirelog_written.
 #[repr(C)]
@@ -37,7 +46,7 @@ extern "C" {
         message_len: usize,
         signature: *const u8,
         signature_len: usize,
-    ) -> u32;
+    ) -> LmsAnswer;
 
     pub fn hirelog_audit(
         roster: *const u8,

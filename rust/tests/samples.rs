@@ -59,7 +59,8 @@ fn digests() {
     assert_eq!(sha256(&vec![0; hirelog::MESSAGE_MAX + 1]), None);
 }
 
-/// A bad signature, a good one (replica 1's vote in a sample), and a message that is too long.
+/// A bad signature, a good one (replica 1's vote in a sample) with its leaf, and a message that is
+/// too long.
 #[test]
 fn checks() {
     assert_eq!(lms_check(&[], &[], &[]), Verdict::Bad);
@@ -68,6 +69,7 @@ fn checks() {
     let key = &roster[18..18 + 56];
     let (vote, signature) = (&first[36..36 + 46], &first[36 + 48..36 + 48 + 1292]);
     let statement = [&[3], &roster[..16], vote].concat();
-    assert_eq!(lms_check(key, &statement, signature), Verdict::Good);
+    let leaf = u32::from_be_bytes(signature[..4].try_into().expect("four bytes"));
+    assert_eq!(lms_check(key, &statement, signature), Verdict::Good { leaf });
     assert_eq!(lms_check(key, &statement[..62], signature), Verdict::Bad);
 }

@@ -1,7 +1,7 @@
 // The exported services, for C callers (include/hirelog.h has the rules).
 ghost use mathlib.Core.Path.{_≡_};
 ghost use Rattle.sha256.specs.Service.{digestNumber, digestAfter};
-ghost use Rattle.lm_answer.specs.Number.{answerNumber};
+ghost use Rattle.lm_answer.specs.Number.{answerNumber, answerLeaf};
 ghost use Rattle.lms.specs.Check.{answer};
 ghost use Rattle.report.specs.Report.{auditNumber, reportAfter};
 ghost use Rattle.report.specs.Claims.{Naming, Fairness};
@@ -9,6 +9,7 @@ ghost use Rattle.district.specs.District.{districtNumber, districtAfter};
 ghost use Rattle.district.specs.Claims.{DistrictNaming, DistrictFairness};
 ghost use Rattle.assembly.specs.Assembly.{assembleNumber, assembleLength, outputAfter};
 ghost use Rattle.assembly.specs.Claims.{Assembled};
+use lm_answer::LmsAnswer;
 use written::Written;
 
 // SHA-256 (document 01, "Digest and signature"; FIPS 180-4): 0 and the digest of the message, or 16 for a
@@ -22,13 +23,16 @@ pub extern "C" fn hirelog_sha256(message: &[u8], digest: &mut [u8; 32]) -> u32
 }
 
 // The LMS signature check (document 01, "Digest and signature"; RFC 8554): 0 for good, 15 for bad, and 16,
-// before anything else, for a message of more than 16,777,216 bytes.
+// before anything else, for a message of more than 16,777,216 bytes; with 0 also the number of the
+// signature's leaf (document 02, W5), with 15 and 16 leaf 0.
 #[no_mangle]
-pub extern "C" fn hirelog_lms_check(key: &[u8], message: &[u8], signature: &[u8]) -> u32
-    ensures { λ r. ⌜ r ≡ answerNumber (answer (now (key .entry)) (now (message .entry))
-        (now (signature .entry))) ⌝ }
+pub extern "C" fn hirelog_lms_check(key: &[u8], message: &[u8], signature: &[u8]) -> LmsAnswer
+    ensures number { λ r. ⌜ r .number
+        ≡ answerNumber (answer (now (key .entry)) (now (message .entry)) (now (signature .entry))) ⌝ }
+    ensures leaf { λ r. ⌜ r .leaf
+        ≡ answerLeaf (answer (now (key .entry)) (now (message .entry)) (now (signature .entry))) ⌝ }
 {
-    lm_answer::number_of(lms::check(key, message, signature))
+    lm_answer::exported(lms::check(key, message, signature))
 }
 
 // The audit (document 01): the number, and the report in the buffer's first 53 bytes; with number 1, for a

@@ -15,6 +15,7 @@ use Rattle.lm_format.specs.declared.Height.{Height}
 use Rattle.lm_format.specs.declared.Height.the-variants.{Levels, Unknown}
 use Rattle.lm_format.specs.Format.{height, keySize, oneTimeBytes, pathAt}
 use Rattle.lm_format.specs.Formed.{formed}
+use Rattle.lm_format.specs.Leaf.{leafOf, leafNumber}
 use Rattle.lm_ots.specs.Candidate.{candidate}
 use Rattle.lm_answer.specs.declared.Answer.{Answer}
 use Rattle.lm_answer.specs.declared.Answer.the-variants.{Good, Bad, Long}
@@ -46,6 +47,11 @@ good key message signature =
     (typed (oneTime (numberAt 4 key 4)) (height (numberAt 4 key 0)) key message signature)
     false
 
+-- good, with the number of the leaf (document 02, W5), or bad
+unfoldable pub verdict : Bool → List ℕ → List ℕ → Answer
+verdict accepted key signature = cond accepted (Good (leafNumber (leafOf key signature))) Bad
+
 -- the service's answer: a long message comes before everything
 unfoldable pub answer : List ℕ → List ℕ → List ℕ → Answer
-answer key message signature = cond (tooLong message) Long (cond (good key message signature) Good Bad)
+answer key message signature =
+    cond (tooLong message) Long (verdict (good key message signature) key signature)

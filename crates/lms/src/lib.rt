@@ -42,20 +42,25 @@ fn matches(root: State, key: &[u8]) -> bool
     check::same(&bytes, &key[ROOT_AT..])
 }
 
-// Whether a signature verifies under a key of known types (RFC 8554, 5.4.2, algorithms 6 and 6a).
-fn verify(o: Parameters, h: u32, key: &[u8], message: &[u8], signature: &[u8]) -> bool
+// Whether a signature verifies under a key of known types (RFC 8554, 5.4.2, algorithms 6 and 6a): good, with
+// the number of its leaf, or bad.
+fn verify(o: Parameters, h: u32, key: &[u8], message: &[u8], signature: &[u8]) -> Answer
     requires { ⌜ Listed o × (h ≤ heightMost) × (length (now key) ≡ keySize)
         × (length (now message) ≤ limit) ⌝ }
     ensures { λ r. ⌜ r
-        ≡ rfc.verifies o h (now (key .entry)) (now (message .entry)) (now (signature .entry)) ⌝ }
+        ≡ rfc.verdict (rfc.verifies o h (now (key .entry)) (now (message .entry)) (now (signature .entry)))
+        (now (key .entry)) (now (signature .entry)) ⌝ }
 {
     if !lm_format::signature_formed(o, h, key, signature) {
-        return false;
+        return Answer::Bad;
     }
-    matches(root_of(o, h, key, message, signature), key)
+    if !matches(root_of(o, h, key, message, signature), key) {
+        return Answer::Bad;
+    }
+    Answer::Good(words::u32_at(signature, 0))
 }
 
-// The check: a long message first, then good or bad as RFC 8554 says.
+// The check: a long message first, then good, with its leaf's number, or bad as RFC 8554 says.
 pub fn check(key: &[u8], message: &[u8], signature: &[u8]) -> Answer
     ensures { λ r. ⌜ r ≡ rfc.answer (now (key .entry)) (now (message .entry)) (now (signature .entry)) ⌝ }
 {
@@ -71,9 +76,5 @@ pub fn check(key: &[u8], message: &[u8], signature: &[u8]) -> Answer
     let Height::Levels(h) = lm_format::height_of(words::u32_at(key, 0)) else {
         return Answer::Bad;
     };
-    if verify(o, h, key, message, signature) {
-        Answer::Good
-    } else {
-        Answer::Bad
-    }
+    verify(o, h, key, message, signature)
 }

@@ -18,7 +18,7 @@ pub fn signature_genuine(roster: &[u8], k: usize, message: &[u8], signature: &[u
         (now (signature .entry)) ⌝ }
 {
     match lms::check(roster::key_of(roster, k), message, signature) {
-        Answer::Good => true,
+        Answer::Good(_) => true,
         Answer::Bad => false,
         Answer::Long => false,
     }

@@ -2,7 +2,7 @@
 // service no longer has, or that says less, is refused here. Nothing calls these functions.
 ghost use mathlib.Core.Path.{_≡_};
 ghost use Rattle.sha256.specs.Service.{digestNumber, digestAfter};
-ghost use Rattle.lm_answer.specs.Number.{answerNumber};
+ghost use Rattle.lm_answer.specs.Number.{answerNumber, answerLeaf};
 ghost use Rattle.lms.specs.Check.{answer};
 ghost use Rattle.report.specs.Report.{auditNumber, reportAfter};
 ghost use Rattle.report.specs.Claims.{Naming, Fairness};
@@ -10,6 +10,7 @@ ghost use Rattle.district.specs.District.{districtNumber, districtAfter};
 ghost use Rattle.district.specs.Claims.{DistrictNaming, DistrictFairness};
 ghost use Rattle.assembly.specs.Assembly.{assembleNumber, assembleLength, outputAfter};
 ghost use Rattle.assembly.specs.Claims.{Assembled};
+use lm_answer::LmsAnswer;
 use written::Written;
 
 pub fn sha256(message: &[u8], digest: &mut [u8; 32]) -> u32
@@ -19,9 +20,11 @@ pub fn sha256(message: &[u8], digest: &mut [u8; 32]) -> u32
     hirelog::hirelog_sha256(message, digest)
 }
 
-pub fn lms_check(key: &[u8], message: &[u8], signature: &[u8]) -> u32
-    ensures { λ r. ⌜ r ≡ answerNumber (answer (now (key .entry)) (now (message .entry))
-        (now (signature .entry))) ⌝ }
+pub fn lms_check(key: &[u8], message: &[u8], signature: &[u8]) -> LmsAnswer
+    ensures number { λ r. ⌜ r .number
+        ≡ answerNumber (answer (now (key .entry)) (now (message .entry)) (now (signature .entry))) ⌝ }
+    ensures leaf { λ r. ⌜ r .leaf
+        ≡ answerLeaf (answer (now (key .entry)) (now (message .entry)) (now (signature .entry))) ⌝ }
 {
     hirelog::hirelog_lms_check(key, message, signature)
 }

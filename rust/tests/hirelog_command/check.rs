@@ -1,4 +1,4 @@
-//! hirelog check: good, bad, neither; and files that are in the wrong order.
+//! hirelog check: good with its leaf, bad, neither; and files that are in the wrong order.
 
 use crate::json::{self, Value};
 use crate::*;
@@ -14,26 +14,36 @@ fn signed(folder: &Folder) -> [PathBuf; 3] {
     ]
 }
 
-/// All ways to ask give this line and this status; the plain run is given.
+/// The number of the leaf that a signature says.
+fn leaf_of(signature: &Path) -> u64 {
+    let bytes = fs::read(signature).expect("a signature");
+    u32::from_be_bytes(bytes[..4].try_into().expect("four bytes")).into()
+}
+
+/// All ways to ask give this answer, with the leaf of a good signature, and this status; the plain run
+/// is given.
 fn expect(files: &[PathBuf; 3], answer: &str, number: u64) -> Run {
     let status = if number == 0 { 0 } else { 2 };
+    let leaf = (number == 0).then(|| leaf_of(&files[2]));
+    let line = leaf.map_or(answer.into(), |leaf| format!("{answer} leaf {leaf}"));
     let plain = with_options("check", &[], files);
-    assert_eq!((plain.out.clone(), plain.status), (format!("{answer}\n"), status), "{plain:?}");
+    assert_eq!((plain.out.clone(), plain.status), (format!("{line}\n"), status), "{plain:?}");
     assert_eq!(plain.err.is_empty(), number == 0, "{plain:?}");
 
     let explained = with_options("check", &["--explain"], files);
     assert_eq!(explained.status, status);
     explained.shortens(&plain);
-    assert!(explained.out.starts_with(&format!("{answer}\n\nWhat \"{answer}\" says: ")));
+    assert!(explained.out.starts_with(&format!("{line}\n\nWhat \"{line}\" says: ")));
     assert!(explained.out.contains("\nWhat to do: "));
 
     let run = with_options("check", &["--json", "--explain"], files);
     assert_eq!((run.status, &run.err), (status, &explained.err));
     let object = json::read(&run.out);
-    let names = ["command", "number", "word", "answer", "files", "hints", "explanation"];
+    let names = ["command", "number", "word", "answer", "leaf", "files", "hints", "explanation"];
     assert_eq!(object.names(), names);
     assert_eq!(object.get("number"), &Value::Number(number));
     assert_eq!(object.get("answer").text(), answer);
+    assert_eq!(object.get("leaf"), &leaf.map_or(Value::Null, Value::Number));
     let word =
         if number == 0 { "accepted" } else { ["signature", "long message"][number as usize - 15] };
     assert_eq!(object.get("word").text(), word);
@@ -140,4 +150,19 @@ fn sample_of_a_signature() {
     let [key, _, signature] = files;
     let other = repository("samples").join("empty").join("expected");
     expect(&[key, other, signature], "bad", 15);
+}
+
+/// A published signature (RFC 8554, test case 1), whose leaf is not 0.
+#[test]
+fn published() {
+    let vectors = repository("crates/test_lms/data/lms-rfc8554.txt");
+    let text = fs::read_to_string(vectors).expect("vectors");
+    let fields: Vec<&str> = text.lines().next().expect("a vector").split(' ').collect();
+    let folder = Folder::new("published");
+    let put = |(name, hex): (&str, &str)| {
+        let byte = |at| u8::from_str_radix(&hex[at..at + 2], 16).expect("hex digits");
+        folder.put(name, &(0..hex.len()).step_by(2).map(byte).collect::<Vec<_>>())
+    };
+    let files = [("key", fields[2]), ("message", fields[3]), ("signature", fields[4])].map(put);
+    assert_eq!(expect(&files, "good", 0).out, "good leaf 5\n");
 }

@@ -5,7 +5,7 @@ use Rattle.words.specs.BigEndian.{numberAt}
 use Rattle.lm_digits.specs.Parameters.{oneTime}
 use Rattle.lm_format.specs.Format.{height}
 use Rattle.lm_format.proofs.Forms.{height-le}
-use Rattle.lms.proofs.Answers.{long-message, wrong-key, no-one-time, no-height, verified, not-verified}
+use Rattle.lms.proofs.Answers.{long-message, wrong-key, no-one-time, no-height, by-types}
 use borrow.Author.Needs.{needs}
 use Rattle.lms.proofs.check.Statement.{statement}
 use Rattle.lms.proofs.check.Tie as tie
@@ -56,21 +56,12 @@ verify-requires c κs =
 
 returns-5 : tie.Need-returns-5
 returns-5 c =
-    let a = c .before .before .before .before .before .before .before .before .before .before .before .before .before .before .before .before .before .args in
+    let a = c .before .before .before .before .before .before .before .before .before .before .before .before .before .before .before .before .args in
     let key = a .key .now in
     let message = a .message .now in
     let sig = a .signature .now in
-    verified key message sig (c .before .before .before .before .before .before .before .before .before .before .before .before .before .if1 .left) (c .before .before .before .before .before .before .before .before .before .before .before .before .if2 .left) _ (sym (c .before .before .before .before .before .before .before .before .before .before .one-time .ensures ∙ ap oneTime (c .before .before .before .before .before .before .before .before .before .before .before .u32-at .ensures .0)) ∙ c .before .before .before .before .before .before .before .before .o .given .1) _ (sym (c .before .before .before .before .before .height-of .ensures ∙ ap height (c .before .before .before .before .before .before .u32-at2 .ensures .0)) ∙ c .before .before .before .h .given .1)
-    (sym (c .before .verify .ensures) ∙ c .if3 .taken)
-
-returns-6 : tie.Need-returns-6
-returns-6 c =
-    let a = c .before .before .before .before .before .before .before .before .before .before .before .before .before .before .before .before .before .args in
-    let key = a .key .now in
-    let message = a .message .now in
-    let sig = a .signature .now in
-    not-verified key message sig (c .before .before .before .before .before .before .before .before .before .before .before .before .before .if1 .left) (c .before .before .before .before .before .before .before .before .before .before .before .before .if2 .left) _ (sym (c .before .before .before .before .before .before .before .before .before .before .one-time .ensures ∙ ap oneTime (c .before .before .before .before .before .before .before .before .before .before .before .u32-at .ensures .0)) ∙ c .before .before .before .before .before .before .before .before .o .given .1) _ (sym (c .before .before .before .before .before .height-of .ensures ∙ ap height (c .before .before .before .before .before .before .u32-at2 .ensures .0)) ∙ c .before .before .before .h .given .1)
-    (sym (c .before .verify .ensures) ∙ c .if3 .left)
+    by-types key message sig (c .before .before .before .before .before .before .before .before .before .before .before .before .if1 .left) (c .before .before .before .before .before .before .before .before .before .before .before .if2 .left) _ (sym (c .before .before .before .before .before .before .before .before .before .one-time .ensures ∙ ap oneTime (c .before .before .before .before .before .before .before .before .before .before .u32-at .ensures .0)) ∙ c .before .before .before .before .before .before .before .o .given .1) _ (sym (c .before .before .before .before .height-of .ensures ∙ ap height (c .before .before .before .before .before .u32-at2 .ensures .0)) ∙ c .before .before .h .given .1)
+    (c .verify .ensures)
 
 pub check-spec : {M : Type 1} → statement M
 check-spec =
@@ -89,5 +80,4 @@ check-spec =
     (λ c. search needs)
     returns-4
     verify-requires
-    returns-5
-    returns-6)
+    returns-5)

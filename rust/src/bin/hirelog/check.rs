@@ -18,9 +18,13 @@ Checks an LMS signature (RFC 8554). KEY has the 56 bytes of a public key (in a
 roster, the key of board k begins after 18 + 56 x (k - 1) bytes), MESSAGE what
 was signed, SIGNATURE the signature. It prints one line:
 
-  good          the signature is good for this key and this message
+  good leaf Q   the signature is good for this key and this message, and was
+                made with the key's leaf Q, a number from 0 on
   bad           it is not; also where a length or a type is wrong
   long message  neither: the message has more than 16,777,216 bytes
+
+A leaf is for one message: a board whose good signatures on two messages have
+one Q under one key has used it twice.
 ",
     statuses: &[
         (Status::NothingFound, "good"),
@@ -41,20 +45,22 @@ fn run(operands: &[PathBuf]) -> Result<Answer, Failure> {
     let files = read_all([key.clone(), message.clone(), signature.clone()], MESSAGE_MAX)?;
     let [key, message, signature] = &files;
     let verdict = lms_check(&key.bytes, &message.bytes, &signature.bytes);
-    let (number, line) = match verdict {
-        Verdict::Good => (sys::OK, "good"),
-        Verdict::Bad => (Refusal::Signature.number().into(), "bad"),
-        Verdict::LongMessage => (sys::LONG_MESSAGE, "long message"),
+    let (number, answer, leaf) = match verdict {
+        Verdict::Good { leaf } => (sys::OK, "good", Some(leaf)),
+        Verdict::Bad => (Refusal::Signature.number().into(), "bad", None),
+        Verdict::LongMessage => (sys::LONG_MESSAGE, "long message", None),
     };
     let row = Number::of(number).expect("a row for each number");
-    let remark = remark(verdict, line, row);
+    let line = leaf.map_or(answer.into(), |leaf| format!("{answer} leaf {leaf}"));
+    let remark = remark(verdict, &line, row);
     Ok(Answer {
-        status: if verdict == Verdict::Good { Status::NothingFound } else { Status::Refused },
+        status: if number == sys::OK { Status::NothingFound } else { Status::Refused },
         lines: format!("{line}\n").into_bytes(),
         members: vec![
             ("number", number.to_string()),
             ("word", json::string(row.word)),
-            ("answer", json::string(line)),
+            ("answer", json::string(answer)),
+            ("leaf", leaf.map_or("null".into(), |leaf| leaf.to_string())),
             ("files", json::files(FILES, &files)),
         ],
         refused: refused(verdict, &files, row).into_iter().collect(),
@@ -66,19 +72,26 @@ fn run(operands: &[PathBuf]) -> Result<Answer, Failure> {
 /// What the line says.
 fn remark(verdict: Verdict, line: &str, row: &Number) -> Remark {
     let (meaning, advice) = match verdict {
-        Verdict::Good => (
-            "The signature was made with this key for this very message.",
-            "Nothing. Whether the board used a leaf of its key twice is not looked at here.",
+        Verdict::Good { leaf } => (
+            format!(
+                "The signature was made with this key, with leaf {leaf} of it, for this very message."
+            ),
+            format!(
+                "Nothing. But a leaf is for one message: if leaf {leaf} of this key has a good \
+                 signature of another message too, keep both."
+            ),
         ),
         Verdict::Bad => (
             "The signature was not made with this key for this message, or one of the three was \
-             changed since.",
+             changed since."
+                .into(),
             "See that the three files belong together, are whole, and stand in the order key, \
-             message, signature.",
+             message, signature."
+                .into(),
         ),
-        Verdict::LongMessage => (row.meaning, row.advice),
+        Verdict::LongMessage => (row.meaning.into(), row.advice.into()),
     };
-    Remark { line: line.into(), meaning: meaning.into(), advice: advice.into() }
+    Remark { line: line.into(), meaning, advice }
 }
 
 /// Which files do not go together, and why.
@@ -88,7 +101,7 @@ fn refused(
     row: &Number,
 ) -> Option<RefusedFile> {
     match verdict {
-        Verdict::Good => None,
+        Verdict::Good { .. } => None,
         Verdict::Bad => {
             let told = format!(
                 "bad: {} is no good signature of {} under the key {}: number {}, {}",
@@ -134,7 +147,8 @@ fn bad_hints(files: &[Input; 3]) -> Vec<String> {
 /// The order in which the files are good, if there is one.
 fn right_order(files: &[Input; 3]) -> Option<String> {
     let good = |[key, message, signature]: &[&Input; 3]| {
-        lms_check(&key.bytes, &message.bytes, &signature.bytes) == Verdict::Good
+        let verdict = lms_check(&key.bytes, &message.bytes, &signature.bytes);
+        matches!(verdict, Verdict::Good { .. })
     };
     let [key, message, signature] = hints::in_other_orders(files).find(good)?.map(Input::name);
     Some(format!(
