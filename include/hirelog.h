@@ -67,6 +67,7 @@ extern "C" {
 #define HIRELOG_RULE_TWO_STAMPS 2
 #define HIRELOG_RULE_STALE_VOTE 3
 #define HIRELOG_RULE_STALE_VOTE_EXCHANGED 4
+#define HIRELOG_RULE_ONE_LEAF 5
 
 /*
  * SHA-256 (FIPS 180-4) of the first message_len bytes at message.
@@ -131,7 +132,8 @@ struct hirelog_lms_answer {
  * No byte outside the three is read, and nothing is written: the answer is what is returned. No
  * state is kept from one call to the next, so several threads may call this at the same time, and
  * may share a key, a message and a signature. A call sees one signature: that a leaf was used for
- * two messages shows in the leaves of several.
+ * two messages shows in the leaves of several. hirelog_audit notices it in two submissions, by
+ * HIRELOG_RULE_ONE_LEAF.
  */
 struct hirelog_lms_answer hirelog_lms_check(const uint8_t *key, size_t key_len,
                                             const uint8_t *message, size_t message_len,
@@ -139,8 +141,8 @@ struct hirelog_lms_answer hirelog_lms_check(const uint8_t *key, size_t key_len,
 
 /*
  * The audit of two submissions against a roster (document 01): which replicas, that paper's boards,
- * signed statements that contradict each other, and the first index at which both committed
- * different records.
+ * signed statements that contradict each other, or two with one leaf of their key (document 02, W5),
+ * and the first index at which both committed different records.
  *
  * Returns the report's number: HIRELOG_OK if both submissions are accepted, else the first of 1 to
  * 15 that applies, in this order: HIRELOG_SHORT_REPORT, 2 to 4 for the roster, 5 to 15 for the
@@ -155,9 +157,10 @@ struct hirelog_lms_answer hirelog_lms_check(const uint8_t *key, size_t key_len,
  *   bytes 6 to 7  the replicas named: bit k - 1, counted from the lowest, is replica k, which has
  *                 the roster's key k;
  *   bytes 8 to 52 nine rows of 5 bytes, for replicas 1 to 9: the lowest rule that the replica broke
- *                 (1 byte) and the lowest term for it (4 bytes), 0 and 0 if it is not named.
- * After a refusal bytes 2 to 52 are 0. The rules, each on one statement from the first submission
- * and one from the second, and the row's term:
+ *                 (1 byte) and the lowest term for it, or for rule 5 the lowest leaf number (4
+ *                 bytes); 0 and 0 if it is not named.
+ * After a refusal bytes 2 to 52 are 0. The rules, 1 to 4 each on one statement from the first
+ * submission and one from the second, and the row's term:
  *   1  HIRELOG_RULE_TWO_VOTES: two different votes of one term, for two candidates, or for one, but
  *      not with the same last term, last index and last pointer; that term;
  *   2  HIRELOG_RULE_TWO_STAMPS: stamps of one term on logs that differ in a record that both cover;
@@ -165,7 +168,13 @@ struct hirelog_lms_answer hirelog_lms_check(const uint8_t *key, size_t key_len,
  *   3  HIRELOG_RULE_STALE_VOTE: a receipt in the first's commit certificate, and a vote of a higher
  *      term in the second for a log staler than the record at that index (term compared first, then
  *      index); the vote's term;
- *   4  HIRELOG_RULE_STALE_VOTE_EXCHANGED: rule 3 with the submissions exchanged.
+ *   4  HIRELOG_RULE_STALE_VOTE_EXCHANGED: rule 3 with the submissions exchanged;
+ *   5  HIRELOG_RULE_ONE_LEAF: two signatures of it with one leaf number and different messages
+ *      (statements, compared as bytes), both in the first, both in the second or one in each; the
+ *      row has the lowest such leaf number in place of the term.
+ * Rule 5 comes last: a row has it only where the replica broke no other. It needs no fork, and is
+ * the same with the submissions exchanged. 0 is a leaf number too, so that a row of 5 and 0 is that
+ * of a replica which is named: its rule and bytes 6 to 7 tell, not the term.
  *
  * The caller sees to it that
  *   - roster points to roster_len readable bytes, first to first_len, second to second_len, and
@@ -207,8 +216,10 @@ uint32_t hirelog_audit(const uint8_t *roster, size_t roster_len, const uint8_t *
  *                                 position, then by the higher: their positions, a byte each,
  *                                 counted from 1 over all lengths; 0 and 0 if none do.
  * A submission that is refused is left out of the pairs, and keeps its position. A replica can be
- * named without a fork. Which rule it broke, in which term, and the fork index are not told here:
- * hirelog_audit of two submissions tells them.
+ * named without a fork. With fewer than two accepted submissions nobody is named, not even by
+ * HIRELOG_RULE_ONE_LEAF, which two signatures in one of them can break. Which rule a replica broke,
+ * in which term or with which leaf, and the fork index are not told here: hirelog_audit of two
+ * submissions tells them.
  *
  * Each submission is judged once, its signatures with it, in however many pairs it is.
  *

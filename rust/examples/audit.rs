@@ -20,7 +20,7 @@ fn main() {
                 None => println!("no index at which both committed different records"),
             }
             for (replica, charge) in found.named() {
-                println!("board {replica} broke rule {} in term {}", charge.rule, charge.term);
+                println!("{}", charge.sentence(replica));
             }
         }
     }

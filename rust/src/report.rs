@@ -95,6 +95,7 @@ impl std::error::Error for Refused {}
 #[derive(Clone, Copy, Debug, PartialEq, Eq)]
 pub struct Charge {
     pub rule: u8,
+    /// Of `sys::RULE_ONE_LEAF` no term, but the lowest leaf number that was used for two messages.
     pub term: u32,
 }
 

@@ -1,13 +1,16 @@
-//! The rules that two statements of one replica can break (document 01, The report), in one table.
+//! The rules that two statements of one replica can break (document 01, The report; for rule 5
+//! document 02, W5), in one table.
 
 use crate::Charge;
 
-/// A rule, and what a replica did that broke it.
+/// A rule, what a replica did that broke it, and what to do then.
 #[derive(Clone, Copy, Debug, PartialEq, Eq)]
 pub struct Rule {
     pub rule: u8,
     /// A sentence with `{board}` and `{term}` where the charge's numbers belong.
     meaning: &'static str,
+    /// What to do beside what every rule asks for: nothing, or a sentence.
+    besides: &'static str,
 }
 
 /// All rules, from 1 on.
@@ -16,23 +19,34 @@ pub const RULES: &[Rule] = &[
         rule: 1,
         meaning: "Board {board} cast two different votes in term {term}: for two candidates, or \
             for one candidate, but not with the same last term, last index and last pointer.",
+        besides: "",
     },
     Rule {
         rule: 2,
         meaning: "Board {board} stamped two logs as leader of term {term}, and they differ in a \
             record that both stamps cover.",
+        besides: "",
     },
     Rule {
         rule: 3,
         meaning: "Board {board} gave a receipt for a record, which the first submission has, and \
             later, in term {term}, voted for a candidate whose log was staler than that record: \
             the second submission has the vote.",
+        besides: "",
     },
     Rule {
         rule: 4,
         meaning: "Board {board} gave a receipt for a record, which the second submission has, and \
             later, in term {term}, voted for a candidate whose log was staler than that record: \
             the first submission has the vote.",
+        besides: "",
+    },
+    Rule {
+        rule: 5,
+        meaning: "Board {board} signed two different messages with leaf {term} of its key, which \
+            is for one: both signatures are in the first submission, both in the second, or one \
+            in each. The number in the line is this leaf's, not a term's.",
+        besides: "Trust no signature under its key any more: it needs a new one.",
     },
 ];
 
@@ -52,23 +66,48 @@ impl Charge {
         let told = row.meaning.replace("{board}", &replica.to_string());
         told.replace("{term}", &self.term.to_string())
     }
+
+    /// What to do about it, after an audit of two submissions.
+    pub fn advice(&self, replica: usize) -> String {
+        let advice = format!(
+            "Have board {replica} taken out of use and looked at. Keep the roster and both \
+             submissions as they are: they are the proof."
+        );
+        match Rule::of(self.rule).map_or("", |row| row.besides) {
+            "" => advice,
+            besides => format!("{advice} {besides}"),
+        }
+    }
 }
 
 #[cfg(test)]
 mod tests {
     use super::*;
+    use crate::sys::RULE_ONE_LEAF;
 
-    /// Each rule from 1 to 4 has a row, at its place, and its sentence says both numbers.
+    /// Each rule from 1 to 5 has a row, at its place, and its sentence says both numbers, that of
+    /// rule 5 as a leaf's.
     #[test]
     fn rows() {
-        assert_eq!(RULES.len(), 4);
+        assert_eq!(RULES.len(), 5);
         for (rule, row) in (1..).zip(RULES) {
             assert_eq!((row.rule, Rule::of(rule)), (rule, Some(row)));
             let told = Charge { rule, term: 4711 }.sentence(8);
-            assert!(told.starts_with("Board 8 ") && told.contains("term 4711"), "{told}");
+            let second = if rule == RULE_ONE_LEAF { "leaf 4711" } else { "term 4711" };
+            assert!(told.starts_with("Board 8 ") && told.contains(second), "{told}");
             assert!(told.ends_with('.') && !told.contains(['{', '}']), "{told}");
         }
-        assert_eq!(Rule::of(5), None);
+        assert_eq!(Rule::of(6), None);
         assert!(Charge { rule: 9, term: 1 }.sentence(2).contains("rule 9"));
+    }
+
+    /// What to do names the replica; after a leaf was used twice its key is to be given up, too.
+    #[test]
+    fn advice() {
+        for rule in 1..10 {
+            let advice = Charge { rule, term: 0 }.advice(3);
+            assert!(advice.starts_with("Have board 3 ") && advice.ends_with('.'), "{advice}");
+            assert_eq!(advice.contains("it needs a new one"), rule == RULE_ONE_LEAF, "{advice}");
+        }
     }
 }

@@ -10,11 +10,12 @@ pub const ITEM: u32 = 19;
 pub const NO_LEADER: u32 = 20;
 pub const SHORT_OUTPUT: u32 = 21;
 
-/// What a `Charge` has as its rule.
+/// What a `Charge` has as its rule; of `RULE_ONE_LEAF` the term is a leaf's number.
 pub const RULE_TWO_VOTES: u8 = 1;
 pub const RULE_TWO_STAMPS: u8 = 2;
 pub const RULE_STALE_VOTE: u8 = 3;
 pub const RULE_STALE_VOTE_EXCHANGED: u8 = 4;
+pub const RULE_ONE_LEAF: u8 = 5;
 
 /// What the signature check returns: struct hirelog_lms_answer.
 #[repr(C)]

@@ -23,7 +23,9 @@ document 01's program:
   fork I                 the first index at which both submissions committed
                          different records, 0 if there is none
   board K rule R term T  for each board named: the lowest rule that it broke,
-                         and the lowest term for that rule
+                         and the lowest term for that rule; with rule 5 T is
+                         no term, but the lowest leaf number of the board's key
+                         that it used for two messages
 
 Which submission is named first matters for rules 3 and 4 alone, which are one
 rule with the submissions exchanged; and where both would be refused, for then
@@ -76,10 +78,7 @@ fn accepted(files: &[Input; 3], found: &Findings) -> Answer {
         remarks.push(Remark {
             line: line.clone(),
             meaning: charge.sentence(replica),
-            advice: format!(
-                "Have board {replica} taken out of use and looked at. Keep the roster and both \
-                 submissions as they are: they are the proof."
-            ),
+            advice: charge.advice(replica),
         });
         lines.push(line);
     }
@@ -160,7 +159,8 @@ fn fork_remark(line: &str, fork: Option<u32>, named: bool) -> Remark {
         ),
     };
     if !named {
-        meaning += " No board is named: nothing in the one contradicts the other.";
+        meaning += " No board is named: nothing in the one contradicts the other, and no leaf of \
+            a board's key was used for two messages.";
         advice += " Other submissions of the district may still show something.";
     }
     Remark { line: line.into(), meaning, advice }

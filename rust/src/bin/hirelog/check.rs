@@ -24,7 +24,7 @@ was signed, SIGNATURE the signature. It prints one line:
   long message  neither: the message has more than 16,777,216 bytes
 
 A leaf is for one message: a board whose good signatures on two messages have
-one Q under one key has used it twice.
+one Q under one key has used it twice. hirelog audit looks for that.
 ",
     statuses: &[
         (Status::NothingFound, "good"),
@@ -78,7 +78,8 @@ fn remark(verdict: Verdict, line: &str, row: &Number) -> Remark {
             ),
             format!(
                 "Nothing. But a leaf is for one message: if leaf {leaf} of this key has a good \
-                 signature of another message too, keep both."
+                 signature of another message too, keep both. hirelog audit looks for that in two \
+                 submissions."
             ),
         ),
         Verdict::Bad => (

@@ -28,11 +28,13 @@ to 9; or name the roster and each submission. It prints
   fork A B               the first two submissions, by their I, that committed
                          different records at one index; 0 0 if there are none
   board K                for each board named: it signed statements, in two of
-                         the submissions, that contradict each other
+                         the submissions, that contradict each other, or two
+                         messages with one leaf of its key
 
-Which rule a board broke, in which term, and at which index two logs part says
-hirelog audit of the two; --explain gives a command line to begin with. A
-message says why a submission was refused, also where a board is named.
+Which rule a board broke, in which term or with which leaf, and at which index
+two logs part says hirelog audit of the two; --explain gives a command line to
+begin with. A message says why a submission was refused, also where a board is
+named.
 ",
     statuses: &[
         (Status::NothingFound, "nothing found: all submissions accepted, no board named"),
@@ -311,7 +313,8 @@ fn fork_remark(line: &str, files: &Files, found: &District) -> Remark {
         ),
     };
     if found.named.is_empty() && accepted >= 2 {
-        meaning += " No board is named: nothing in one of them contradicts another.";
+        meaning += " No board is named: nothing in one of them contradicts another, and no leaf \
+            of a board's key was used for two messages.";
         advice += " Other submissions of the district may still show something.";
     }
     Remark { line: line.into(), meaning, advice }
@@ -336,8 +339,8 @@ fn board_remark(line: &str, replica: usize, files: &Files, found: &District) -> 
     Remark {
         line: line.into(),
         meaning: format!(
-            "Board {replica} signed two statements that contradict each other, and two of the \
-             accepted submissions have them."
+            "Board {replica} signed two statements that contradict each other, or two with one \
+             leaf of its key, and the accepted submissions have them."
         ),
         advice: format!(
             "Have board {replica} taken out of use and looked at. Keep the roster and all \

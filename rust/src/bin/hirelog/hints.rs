@@ -317,8 +317,8 @@ fn other_district(roster: &Input, refused: &Input, others: &[&Input]) -> Option<
     ))
 }
 
-/// Submissions that are one: nothing can be found between them. Empty logs of a district have the
-/// same bytes by right.
+/// Submissions that are one: nothing can be found between them but a leaf used twice (rule 5). Empty
+/// logs of a district have the same bytes by right.
 pub fn same_bytes(submissions: &[Input]) -> Vec<String> {
     let alike = |place: usize| {
         let same = submissions[place..].iter().filter(|s| s.bytes == submissions[place].bytes);
@@ -332,8 +332,8 @@ pub fn same_bytes(submissions: &[Input]) -> Vec<String> {
     let groups = (0..submissions.len()).filter(first).map(alike).filter(|names| names.len() > 1);
     let told = |names: Vec<String>| {
         format!(
-            "{} have the same bytes, and a submission does not contradict itself: see that they \
-             are the {} that you meant",
+            "{} have the same bytes, and a submission does not contradict itself, unless by a leaf \
+             that was used twice: see that they are the {} that you meant",
             list(&names, "and"),
             if names.len() == 2 { "two".into() } else { names.len().to_string() }
         )
