@@ -1,2 +1,3 @@
 pub mod Forms
 pub mod Leaf
+pub mod Uses

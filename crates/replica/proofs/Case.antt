@@ -17,8 +17,9 @@ pub record Case : Type 0 where
 unfoldable pub given : ℕ → State → Act → Option State → Case
 given n s a expected = record { replicas = n; start = s; act = a; expected = expected }
 
+-- no leaf is used before
 unfoldable pub state : ℕ → Option Ballot → Option ℕ → List Record → State
-state t vote stamp log = record { term = t; vote = vote; stamp = stamp; log = log }
+state t vote stamp log = record { term = t; vote = vote; stamp = stamp; log = log; used = [] }
 
 -- a vote's fields, with the first byte of its last pointer
 unfoldable pub ballot : ℕ → ℕ → ℕ → ℕ → ℕ → Ballot

@@ -1,5 +1,5 @@
--- A replica that keeps the board rules signs no two claims that clash. Each state says what it keeps of every claim signed before;
--- every allowed act keeps that, and what it signs is free of charges against what was kept.
+-- A replica that keeps the board rules and the leaf rule signs no two claims that clash. Each state says what it keeps of every claim signed before;
+-- every allowed act keeps that, and what it signs is free of charges against what was kept. Rule 5 is apart from this: `Leaves` has its induction.
 -- Assumes nothing.
 use mathlib.Core.Path.{_≡_, refl, sym, ap, subst, _∙_}
 use mathlib.Core.Bool.{Bool, true, false, not, cond}
@@ -15,14 +15,19 @@ use lib.ListN.{length, take, length-append}
 use lib.Seq.{length-take-le}
 use Rattle.words.proofs.Same.{true-same}
 use Rattle.refusal.proofs.Laws.{look, cond-true, all-cons}
+use Rattle.lm_format.specs.Leaf.{Leaf}
+use Rattle.lm_format.specs.Uses.{useOf}
+use Rattle.lm_format.proofs.Uses.{not-reused}
 use Rattle.log_chain.specs.Log.{Form, Record, termFrom, lastTerm}
 use Rattle.log_chain.specs.Ends.{rising, staler}
 use Rattle.log_chain.specs.Claim.{Ballot, Claim, stamped, received, voted}
-use Rattle.replica.specs.Replica.{State, first, keeps, signed, Act, raise, vote, run, add, stamp, receipt, decline, restart, oneRequest, noStamp, noStaler, rules, allowed, after, signs}
+use Rattle.replica.specs.Replica.{State, first, keeps, signed, Act, raise, vote, run, add, stamp, receipt, decline, restart, oneRequest, noStamp, noStaler, rules, allowed, moved, after, Signing, signing, signs, useIn}
 use Rattle.log_chain.proofs.Order.{Fresh, fresh, not-staler, fresh-trans, last-snoc, take-last-le, rising-snoc}
-use Rattle.replica.specs.Charges.{NeverCharged, clash, charge, twoVotes, twoStamps, staleVote}
+use Rattle.replica.specs.Charges.{NeverCharged, clash, leafClash, charge, twoVotes, twoStamps, staleVote}
 use Rattle.log_chain.specs.Difference.{agree, sameRecord}
 use Rattle.replica.proofs.Request.{request-vote, vote-request}
+use Rattle.replica.proofs.Allowed.{by-rules, one-signing}
+use Rattle.replica.proofs.Leaves.{leaves}
 
 -- ---- what a state keeps
 
@@ -44,18 +49,18 @@ record Sound (s : State) : Type 0 where
 
 module _ (form : Form) (n : ℕ) (s : State) where
   raise-fact : (t : ℕ) → allowed form n s (raise t) ≡ true → s .term ≤ t
-  unfolding allowed rules
-  raise-fact t e = leb-true (s .term) t (all-cons _ _ e .0)
+  unfolding rules
+  raise-fact t e = leb-true (s .term) t (all-cons _ _ (by-rules form n s (raise t) e) .0)
 
   record VoteFacts (b : Ballot) : Type 0 where
     term : s .term ≤ b .term
     one : oneRequest (s .vote) b ≡ true
     end : Fresh (b .lastTerm) (b .lastIndex) (lastTerm (s .log)) (length (s .log))
 
-  vote-facts : (b : Ballot) → allowed form n s (vote b) ≡ true → VoteFacts b
-  unfolding allowed rules noStaler
-  vote-facts b e =
-      let e1 = all-cons _ _ e in
+  vote-facts : (q : Leaf) (b : Ballot) → allowed form n s (vote q b) ≡ true → VoteFacts b
+  unfolding rules noStaler
+  vote-facts q b e =
+      let e1 = all-cons _ _ (by-rules form n s (vote q b) e) in
       let e2 = all-cons _ _ (e1 .1) in
       let e3 = all-cons _ _ (e2 .1) in
       let e4 = all-cons _ _ (e3 .1) in
@@ -73,9 +78,9 @@ module _ (form : Form) (n : ℕ) (s : State) where
     unstamped : noStamp (s .stamp) (s .term) ≡ true
 
   run-facts : (k : ℕ) (records : List Record) → allowed form n s (run k records) ≡ true → RunFacts (take k (s .log) ++ records)
-  unfolding allowed rules noStaler
+  unfolding rules noStaler
   run-facts k records e =
-      let e1 = all-cons _ _ e in
+      let e1 = all-cons _ _ (by-rules form n s (run k records) e) in
       let e2 = all-cons _ _ (e1 .1) in
       let e3 = all-cons _ _ (e2 .1) in
       let e4 = all-cons _ _ (e3 .1) in
@@ -89,13 +94,13 @@ module _ (form : Form) (n : ℕ) (s : State) where
       }
 
   add-facts : (r : Record) → allowed form n s (add r) ≡ true → (r .term ≡ s .term) × (0 < r .term)
-  unfolding allowed rules
-  add-facts r e = let e1 = all-cons _ _ e in (eqb-true _ _ (e1 .0), ltb-true _ _ (all-cons _ _ (e1 .1) .0))
+  unfolding rules
+  add-facts r e = let e1 = all-cons _ _ (by-rules form n s (add r) e) in (eqb-true _ _ (e1 .0), ltb-true _ _ (all-cons _ _ (e1 .1) .0))
 
-  receipt-facts : (i : ℕ) → allowed form n s (receipt i) ≡ true → (i ≤ length (s .log)) × (lastTerm (take i (s .log)) ≡ s .term)
-  unfolding allowed rules
-  receipt-facts i e =
-      let e1 = all-cons _ _ e in
+  receipt-facts : (q : Leaf) (i : ℕ) → allowed form n s (receipt q i) ≡ true → (i ≤ length (s .log)) × (lastTerm (take i (s .log)) ≡ s .term)
+  unfolding rules
+  receipt-facts q i e =
+      let e1 = all-cons _ _ (by-rules form n s (receipt q i) e) in
       let e2 = all-cons _ _ (e1 .1) in
       (leb-true _ _ (e2 .0), eqb-true _ _ (all-cons _ _ (e2 .1) .0))
 
@@ -137,16 +142,16 @@ add-end s r ok own =
 
 module _ (form : Form) (n : ℕ) where
   sound-after : (s : State) (a : Act) → allowed form n s a ≡ true → Sound s → Sound (after s a)
-  unfolding after
+  unfolding after moved
   sound-after s (raise t) e ok = record { below = le-trans (ok .below) (raise-fact form n s t e); rises = ok .rises }
-  sound-after s (vote b) e ok = record { below = le-trans (ok .below) (vote-facts form n s b e .term); rises = ok .rises }
+  sound-after s (vote q b) e ok = record { below = le-trans (ok .below) (vote-facts form n s q b e .term); rises = ok .rises }
   sound-after s (run k records) e ok =
       let f = run-facts form n s k records e in record { below = omega (arith, f .own); rises = f .rises }
   sound-after s (add r) e ok =
       let f = add-facts form n s r e in
       record { below = omega (arith, last-snoc (s .log) r, f .0); rises = rising-snoc (s .log) r (ok .rises) (omega (arith, ok .below, f .0)) (f .1) }
-  sound-after s stamp e ok = record { below = ok .below; rises = ok .rises }
-  sound-after s (receipt i) e ok = ok
+  sound-after s (stamp q) e ok = record { below = ok .below; rises = ok .rises }
+  sound-after s (receipt q i) e ok = record { below = ok .below; rises = ok .rises }
   sound-after s decline e ok = ok
   sound-after s restart e ok = ok
 
@@ -160,20 +165,20 @@ module _ (form : Form) (n : ℕ) where
   stamped-now (some u) t e d = let same-term : u ≡ t = cc in eqb-false u t (not-true (eqb u t) e) same-term
 
   kept-after : (s : State) (a : Act) (c : Claim) → allowed form n s a ≡ true → Sound s → Kept s c → Kept (after s a) c
-  unfolding after
+  unfolding after moved
   kept-after s (raise t) (voted b) e ok k =
       let h = raise-fact form n s t e in (le-trans (k .0) h, λ d. k .1 (omega (arith, k .0, h)))
   kept-after s (raise t) (stamped u l) e ok k =
       let h = raise-fact form n s t e in (le-trans (k .0) h, λ d. k .1 (omega (arith, k .0, h)))
   kept-after s (raise t) (received u l) e ok k = (le-trans (k .0) (raise-fact form n s t e), k .1)
-  kept-after s (vote a) (voted b) e ok k =
-      let f = vote-facts form n s a e in (
+  kept-after s (vote q a) (voted b) e ok k =
+      let f = vote-facts form n s q a e in (
         le-trans (k .0) (f .term),
         λ d. ap some (sym (same-vote (s .vote) b a (f .one) (k .1 (omega (arith, k .0, f .term))) d)),
       )
-  kept-after s (vote a) (stamped u l) e ok k =
-      let f = vote-facts form n s a e in (le-trans (k .0) (f .term), λ d. k .1 (omega (arith, k .0, f .term)))
-  kept-after s (vote a) (received u l) e ok k = (le-trans (k .0) (vote-facts form n s a e .term), k .1)
+  kept-after s (vote q a) (stamped u l) e ok k =
+      let f = vote-facts form n s q a e in (le-trans (k .0) (f .term), λ d. k .1 (omega (arith, k .0, f .term)))
+  kept-after s (vote q a) (received u l) e ok k = (le-trans (k .0) (vote-facts form n s q a e .term), k .1)
   kept-after s (run i records) (voted b) e ok k = k
   kept-after s (run i records) (stamped u l) e ok k =
       let f = run-facts form n s i records e in
@@ -182,10 +187,12 @@ module _ (form : Form) (n : ℕ) where
   kept-after s (add r) (voted b) e ok k = k
   kept-after s (add r) (stamped u l) e ok k = (k .0, λ d. (k .1 d .0, begins-more l (s .log) (r ∷ []) (k .1 d .1)))
   kept-after s (add r) (received u l) e ok k = (k .0, fresh-trans (add-end s r ok (add-facts form n s r e .0)) (k .1))
-  kept-after s stamp (voted b) e ok k = k
-  kept-after s stamp (stamped u l) e ok k = (k .0, λ d. (ap some (sym d), k .1 d .1))
-  kept-after s stamp (received u l) e ok k = k
-  kept-after s (receipt i) c e ok k = k
+  kept-after s (stamp q) (voted b) e ok k = k
+  kept-after s (stamp q) (stamped u l) e ok k = (k .0, λ d. (ap some (sym d), k .1 d .1))
+  kept-after s (stamp q) (received u l) e ok k = k
+  kept-after s (receipt q i) (voted b) e ok k = k
+  kept-after s (receipt q i) (stamped u l) e ok k = k
+  kept-after s (receipt q i) (received u l) e ok k = k
   kept-after s decline c e ok k = k
   kept-after s restart c e ok k = k
 
@@ -242,10 +249,10 @@ module _ (form : Form) (n : ℕ) where
   unfolding clash
   free-receipt t l b h = let f = stale-vote t l b h in (no-charge _ 3 _ f, no-charge _ 4 _ f)
 
-  new-vote : (s : State) (b : Ballot) → allowed form n s (vote b) ≡ true → Sound s → New s (vote b) (voted b)
-  unfolding after clash
-  new-vote s b e ok =
-      let f = vote-facts form n s b e in
+  new-vote : (s : State) (q : Leaf) (b : Ballot) → allowed form n s (vote q b) ≡ true → Sound s → New s (vote q b) (voted b)
+  unfolding after moved clash
+  new-vote s q b e ok =
+      let f = vote-facts form n s q b e in
       record {
         kept = (le-refl (b .term), λ d. refl);
         against = against f;
@@ -257,9 +264,9 @@ module _ (form : Form) (n : ℕ) where
       against f (stamped t l) k = (refl, refl)
       against f (received t l) k = free-receipt t l b (λ d. fresh-trans (f .end) (k .1))
 
-  new-stamp : (s : State) → allowed form n s stamp ≡ true → Sound s → New s stamp (stamped (s .term) (s .log))
-  unfolding after clash
-  new-stamp s e ok =
+  new-stamp : (s : State) (q : Leaf) → allowed form n s (stamp q) ≡ true → Sound s → New s (stamp q) (stamped (s .term) (s .log))
+  unfolding after moved clash
+  new-stamp s q e ok =
       record {
         kept = (le-refl (s .term), λ d. (refl, begins-self (s .log)));
         against = against;
@@ -271,10 +278,11 @@ module _ (form : Form) (n : ℕ) where
       against (stamped t l) k = free-stamps t (s .term) l (s .log) (λ d. k .1 d .1)
       against (received t l) k = (refl, refl)
 
-  new-receipt : (s : State) (i : ℕ) → allowed form n s (receipt i) ≡ true → Sound s → New s (receipt i) (received (s .term) (take i (s .log)))
-  unfolding after clash
-  new-receipt s i e ok =
-      let f = receipt-facts form n s i e in
+  new-receipt : (s : State) (q : Leaf) (i : ℕ) → allowed form n s (receipt q i) ≡ true → Sound s
+      → New s (receipt q i) (received (s .term) (take i (s .log)))
+  unfolding after moved clash
+  new-receipt s q i e ok =
+      let f = receipt-facts form n s q i e in
       let reach = take-last-le i (s .log) (ok .rises) in
       record {
         kept = (
@@ -294,67 +302,62 @@ module _ (form : Form) (n : ℕ) where
       against (stamped t l) k = (refl, refl)
       against (received t l) k = (refl, refl)
 
-  new-claim : (s : State) (a : Act) → allowed form n s a ≡ true → Sound s → (c : Claim) → List·Memᴰ c (signs s a) → New s a c
-  unfolding signs
-  new-claim s (raise t) e ok c m = absurd (List·Memᴰ·not-nil m)
-  new-claim s (vote b) e ok c m = subst (New s (vote b)) (sym (List·Memᴰ·eq-of-singleton m)) (new-vote s b e ok)
-  new-claim s (run k records) e ok c m = absurd (List·Memᴰ·not-nil m)
-  new-claim s (add r) e ok c m = absurd (List·Memᴰ·not-nil m)
-  new-claim s stamp e ok c m = subst (New s stamp) (sym (List·Memᴰ·eq-of-singleton m)) (new-stamp s e ok)
-  new-claim s (receipt i) e ok c m = subst (New s (receipt i)) (sym (List·Memᴰ·eq-of-singleton m)) (new-receipt s i e ok)
-  new-claim s decline e ok c m = absurd (List·Memᴰ·not-nil m)
-  new-claim s restart e ok c m = absurd (List·Memᴰ·not-nil m)
-
-  -- an act signs one claim at most
-  one-claim : (s : State) (a : Act) (c d : Claim) → List·Memᴰ c (signs s a) → List·Memᴰ d (signs s a) → c ≡ d
-  unfolding signs
-  one-claim s (raise t) c d m k = absurd (List·Memᴰ·not-nil m)
-  one-claim s (vote b) c d m k = List·Memᴰ·eq-of-singleton m ∙ sym (List·Memᴰ·eq-of-singleton k)
-  one-claim s (run i records) c d m k = absurd (List·Memᴰ·not-nil m)
-  one-claim s (add r) c d m k = absurd (List·Memᴰ·not-nil m)
-  one-claim s stamp c d m k = List·Memᴰ·eq-of-singleton m ∙ sym (List·Memᴰ·eq-of-singleton k)
-  one-claim s (receipt i) c d m k = List·Memᴰ·eq-of-singleton m ∙ sym (List·Memᴰ·eq-of-singleton k)
-  one-claim s decline c d m k = absurd (List·Memᴰ·not-nil m)
-  one-claim s restart c d m k = absurd (List·Memᴰ·not-nil m)
+  new-claim : (s : State) (a : Act) → allowed form n s a ≡ true → Sound s → (x : Signing) → List·Memᴰ x (signs s a) → New s a (x .claim)
+  unfolding signs signing
+  new-claim s (raise t) e ok x m = absurd (List·Memᴰ·not-nil m)
+  new-claim s (vote q b) e ok x m =
+      subst (λ (z : Signing). New s (vote q b) (z .claim)) (sym (List·Memᴰ·eq-of-singleton m)) (new-vote s q b e ok)
+  new-claim s (run k records) e ok x m = absurd (List·Memᴰ·not-nil m)
+  new-claim s (add r) e ok x m = absurd (List·Memᴰ·not-nil m)
+  new-claim s (stamp q) e ok x m =
+      subst (λ (z : Signing). New s (stamp q) (z .claim)) (sym (List·Memᴰ·eq-of-singleton m)) (new-stamp s q e ok)
+  new-claim s (receipt q i) e ok x m =
+      subst (λ (z : Signing). New s (receipt q i) (z .claim)) (sym (List·Memᴰ·eq-of-singleton m)) (new-receipt s q i e ok)
+  new-claim s decline e ok x m = absurd (List·Memᴰ·not-nil m)
+  new-claim s restart e ok x m = absurd (List·Memᴰ·not-nil m)
 
   -- ---- over the whole list of acts
 
   -- what was kept is free against all that is signed later
   later : (acts : List Act) (s : State) → Sound s → keeps form n s acts ≡ true
-      → (c d : Claim) → Kept s c → List·Memᴰ d (signed s acts) → Free c d
+      → (c : Claim) (y : Signing) → Kept s c → List·Memᴰ y (signed s acts) → Free c (y .claim)
   unfolding keeps signed
-  later [] s ok e c d k m = absurd (List·Memᴰ·not-nil m)
-  later (a ∷ acts) s ok e c d k m =
+  later [] s ok e c y k m = absurd (List·Memᴰ·not-nil m)
+  later (a ∷ acts) s ok e c y k m =
       let p = cond-true (allowed form n s a) (keeps form n (after s a) acts) e in
       ⊎-elim
-      (λ (h : List·Memᴰ d (signs s a)). new-claim s a (p .0) ok d h .against c k)
-      (λ (h : List·Memᴰ d (signed (after s a) acts)).
-      later acts (after s a) (sound-after s a (p .0) ok) (p .1) c d (kept-after s a c (p .0) ok k) h)
+      (λ (h : List·Memᴰ y (signs s a)). new-claim s a (p .0) ok y h .against c k)
+      (λ (h : List·Memᴰ y (signed (after s a) acts)).
+      later acts (after s a) (sound-after s a (p .0) ok) (p .1) c y (kept-after s a c (p .0) ok k) h)
       (List·Memᴰ·append-cases (signs s a) m)
 
   -- any two claims are free against each other
   honest : (acts : List Act) (s : State) → Sound s → keeps form n s acts ≡ true
-      → (c d : Claim) → List·Memᴰ c (signed s acts) → List·Memᴰ d (signed s acts) → Free c d
+      → (x y : Signing) → List·Memᴰ x (signed s acts) → List·Memᴰ y (signed s acts) → Free (x .claim) (y .claim)
   unfolding keeps signed
-  honest [] s ok e c d m k = absurd (List·Memᴰ·not-nil m)
-  honest (a ∷ acts) s ok e c d m k =
+  honest [] s ok e x y m k = absurd (List·Memᴰ·not-nil m)
+  honest (a ∷ acts) s ok e x y m k =
       let p = cond-true (allowed form n s a) (keeps form n (after s a) acts) e in
       let t = after s a in
       let fine = sound-after s a (p .0) ok in
       ⊎-elim
-      (λ (h : List·Memᴰ c (signs s a)).
+      (λ (h : List·Memᴰ x (signs s a)).
       ⊎-elim
-      (λ (j : List·Memᴰ d (signs s a)). subst (Free c) (one-claim s a c d h j) (new-claim s a (p .0) ok c h .itself))
-      (λ (j : List·Memᴰ d (signed t acts)). later acts t fine (p .1) c d (new-claim s a (p .0) ok c h .kept) j)
+      (λ (j : List·Memᴰ y (signs s a)).
+      subst (λ (z : Signing). Free (x .claim) (z .claim)) (one-signing s a x y h j) (new-claim s a (p .0) ok x h .itself))
+      (λ (j : List·Memᴰ y (signed t acts)). later acts t fine (p .1) (x .claim) y (new-claim s a (p .0) ok x h .kept) j)
       (List·Memᴰ·append-cases (signs s a) k))
-      (λ (h : List·Memᴰ c (signed t acts)).
+      (λ (h : List·Memᴰ x (signed t acts)).
       ⊎-elim
-      (λ (j : List·Memᴰ d (signs s a)).
-      let f = later acts t fine (p .1) d c (new-claim s a (p .0) ok d j .kept) h in (f .1, f .0))
-      (λ (j : List·Memᴰ d (signed t acts)). honest acts t fine (p .1) c d h j)
+      (λ (j : List·Memᴰ y (signs s a)).
+      let f = later acts t fine (p .1) (y .claim) x (new-claim s a (p .0) ok y j .kept) h in (f .1, f .0))
+      (λ (j : List·Memᴰ y (signed t acts)). honest acts t fine (p .1) x y h j)
       (List·Memᴰ·append-cases (signs s a) k))
       (List·Memᴰ·append-cases (signs s a) m)
 
 pub never-charged : (form : Form) (n : ℕ) → NeverCharged form n
-unfolding NeverCharged first lastTerm termFrom rising
-never-charged form n acts e c d m k = honest form n acts first (record { below = le-refl 0; rises = refl }) e c d m k .0
+unfolding NeverCharged leafClash useIn useOf first lastTerm termFrom rising
+never-charged form n acts e x y m k = (
+  honest form n acts first (record { below = le-refl 0; rises = refl }) e x y m k .0,
+  no-charge _ 5 _ (not-reused (useIn form x) (useIn form y) (leaves form n acts first e x y m k)),
+)

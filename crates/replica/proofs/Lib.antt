@@ -1,4 +1,6 @@
 mod Examples
+pub mod Allowed
+pub mod Leaves
 pub mod Honest
 pub mod Request
 pub mod Signed

@@ -12,12 +12,14 @@ use lib.Dec.{lit<}
 use lib.ListN.{length, take, length-append, length-take}
 use Rattle.words.proofs.Laws.{pow-256-pos}
 use Rattle.refusal.proofs.Laws.{cond-true, all-cons}
+use Rattle.lm_format.specs.Leaf.{Leaf}
 use Rattle.log_chain.specs.Log.{Form, Record, chainStrings}
-use Rattle.log_chain.specs.Claim.{Ballot, Claim}
+use Rattle.log_chain.specs.Claim.{Ballot}
 use Rattle.log_chain.proofs.Said.{stringsOf}
 use Rattle.log_chain.proofs.Fits.{LogFits, empty, more, PlaceFits, BallotFits, ClaimFits}
 use Rattle.log_chain.proofs.Prefix.{strings-take, fits-append, fits-take}
-use Rattle.replica.specs.Replica.{State, first, keeps, signed, held, Act, raise, vote, run, add, stamp, receipt, decline, restart, fitsTerm, fitsIndex, fitsRecords, rules, allowed, after, signs}
+use Rattle.replica.specs.Replica.{State, first, keeps, signed, held, Act, raise, vote, run, add, stamp, receipt, decline, restart, fitsTerm, fitsIndex, fitsRecords, rules, allowed, moved, after, Signing, signing, signs}
+use Rattle.replica.proofs.Allowed.{by-rules}
 
 -- ---- what the rules on fields say
 
@@ -37,13 +39,13 @@ record StateFits (form : Form) (s : State) : Type 0 where
 
 module _ (form : Form) (n : ℕ) (s : State) where
   raise-fits : (t : ℕ) → allowed form n s (raise t) ≡ true → t < 256 ^ form .termBytes
-  unfolding allowed rules fitsTerm
-  raise-fits t e = ltb-true _ _ (all-cons _ _ (all-cons _ _ e .1) .0)
+  unfolding rules fitsTerm
+  raise-fits t e = ltb-true _ _ (all-cons _ _ (all-cons _ _ (by-rules form n s (raise t) e) .1) .0)
 
-  vote-fits : n < 256 ^ 2 → (b : Ballot) → allowed form n s (vote b) ≡ true → BallotFits form b
-  unfolding allowed rules fitsTerm fitsIndex
-  vote-fits h b e =
-      let e3 = all-cons _ _ (all-cons _ _ (all-cons _ _ e .1) .1) in
+  vote-fits : n < 256 ^ 2 → (q : Leaf) (b : Ballot) → allowed form n s (vote q b) ≡ true → BallotFits form b
+  unfolding rules fitsTerm fitsIndex
+  vote-fits h q b e =
+      let e3 = all-cons _ _ (all-cons _ _ (all-cons _ _ (by-rules form n s (vote q b) e) .1) .1) in
       let e6 = all-cons _ _ (all-cons _ _ (all-cons _ _ (e3 .1) .1) .1) in
       let e7 = all-cons _ _ (e6 .1) in
       let e8 = all-cons _ _ (e7 .1) in
@@ -58,35 +60,35 @@ module _ (form : Form) (n : ℕ) (s : State) where
 
   run-fits : (k : ℕ) (records : List Record) → allowed form n s (run k records) ≡ true
       → LogFits form records × (length (take k (s .log) ++ records) < 256 ^ 4)
-  unfolding allowed rules fitsIndex
+  unfolding rules fitsIndex
   run-fits k records e =
-      let e3 = all-cons _ _ (all-cons _ _ (all-cons _ _ e .1) .1) in
+      let e3 = all-cons _ _ (all-cons _ _ (all-cons _ _ (by-rules form n s (run k records) e) .1) .1) in
       let e6 = all-cons _ _ (all-cons _ _ (all-cons _ _ (e3 .1) .1) .1) in
       let e7 = all-cons _ _ (e6 .1) in
       let e8 = all-cons _ _ (e7 .1) in
       (records-fit form records (e7 .0), ltb-true _ _ (e8 .0))
 
   add-fits : (r : Record) → allowed form n s (add r) ≡ true → LogFits form (r ∷ []) × (length (s .log) + 1 < 256 ^ 4)
-  unfolding allowed rules fitsIndex
+  unfolding rules fitsIndex
   add-fits r e =
-      let e3 = all-cons _ _ (all-cons _ _ (all-cons _ _ e .1) .1) in
+      let e3 = all-cons _ _ (all-cons _ _ (all-cons _ _ (by-rules form n s (add r) e) .1) .1) in
       (records-fit form (r ∷ []) (e3 .0), ltb-true _ _ (all-cons _ _ (e3 .1) .0))
 
 -- ---- an allowed act keeps the state's fields fit, and signs what fits
 
 module _ (form : Form) (n : ℕ) (few : n < 256 ^ 2) where
   fits-after : (s : State) (a : Act) → allowed form n s a ≡ true → StateFits form s → StateFits form (after s a)
-  unfolding after
+  unfolding after moved
   fits-after s (raise t) e f = record { term = raise-fits form n s t e; index = f .index; records = f .records }
-  fits-after s (vote b) e f = record { term = vote-fits form n s few b e .term; index = f .index; records = f .records }
+  fits-after s (vote q b) e f = record { term = vote-fits form n s few q b e .term; index = f .index; records = f .records }
   fits-after s (run k records) e f =
       let g = run-fits form n s k records e in
       record { term = f .term; index = g .1; records = fits-append form (fits-take form k (f .records)) (g .0) }
   fits-after s (add r) e f =
       let g = add-fits form n s r e in
       record { term = f .term; index = rw (length-append (s .log) (r ∷ [])) (g .1); records = fits-append form (f .records) (g .0) }
-  fits-after s stamp e f = record { term = f .term; index = f .index; records = f .records }
-  fits-after s (receipt i) e f = f
+  fits-after s (stamp q) e f = record { term = f .term; index = f .index; records = f .records }
+  fits-after s (receipt q i) e f = record { term = f .term; index = f .index; records = f .records }
   fits-after s decline e f = f
   fits-after s restart e f = f
 
@@ -95,61 +97,66 @@ module _ (form : Form) (n : ℕ) (few : n < 256 ^ 2) where
   part-fits s i f =
       record { term = f .term; index = omega (arith, length-take i (s .log), f .index); records = fits-take form i (f .records) }
 
-  claim-fits : (s : State) (a : Act) → allowed form n s a ≡ true → StateFits form s → (c : Claim) → List·Memᴰ c (signs s a) → ClaimFits form c
-  unfolding signs
-  claim-fits s (raise t) e f c m = absurd (List·Memᴰ·not-nil m)
-  claim-fits s (vote b) e f c m = subst (ClaimFits form) (sym (List·Memᴰ·eq-of-singleton m)) (vote-fits form n s few b e)
-  claim-fits s (run k records) e f c m = absurd (List·Memᴰ·not-nil m)
-  claim-fits s (add r) e f c m = absurd (List·Memᴰ·not-nil m)
-  claim-fits s stamp e f c m =
-      subst (ClaimFits form) (sym (List·Memᴰ·eq-of-singleton m)) (record { term = f .term; index = f .index; records = f .records })
-  claim-fits s (receipt i) e f c m = subst (ClaimFits form) (sym (List·Memᴰ·eq-of-singleton m)) (part-fits s i f)
-  claim-fits s decline e f c m = absurd (List·Memᴰ·not-nil m)
-  claim-fits s restart e f c m = absurd (List·Memᴰ·not-nil m)
+  claim-fits : (s : State) (a : Act) → allowed form n s a ≡ true → StateFits form s
+      → (x : Signing) → List·Memᴰ x (signs s a) → ClaimFits form (x .claim)
+  unfolding signs signing
+  claim-fits s (raise t) e f x m = absurd (List·Memᴰ·not-nil m)
+  claim-fits s (vote q b) e f x m =
+      subst (λ (z : Signing). ClaimFits form (z .claim)) (sym (List·Memᴰ·eq-of-singleton m)) (vote-fits form n s few q b e)
+  claim-fits s (run k records) e f x m = absurd (List·Memᴰ·not-nil m)
+  claim-fits s (add r) e f x m = absurd (List·Memᴰ·not-nil m)
+  claim-fits s (stamp q) e f x m =
+      subst (λ (z : Signing). ClaimFits form (z .claim)) (sym (List·Memᴰ·eq-of-singleton m))
+      (record { term = f .term; index = f .index; records = f .records })
+  claim-fits s (receipt q i) e f x m =
+      subst (λ (z : Signing). ClaimFits form (z .claim)) (sym (List·Memᴰ·eq-of-singleton m)) (part-fits s i f)
+  claim-fits s decline e f x m = absurd (List·Memᴰ·not-nil m)
+  claim-fits s restart e f x m = absurd (List·Memᴰ·not-nil m)
 
   claims-fit : (acts : List Act) (s : State) → StateFits form s → keeps form n s acts ≡ true
-      → (c : Claim) → List·Memᴰ c (signed s acts) → ClaimFits form c
+      → (x : Signing) → List·Memᴰ x (signed s acts) → ClaimFits form (x .claim)
   unfolding keeps signed
-  claims-fit [] s f e c m = absurd (List·Memᴰ·not-nil m)
-  claims-fit (a ∷ acts) s f e c m =
+  claims-fit [] s f e x m = absurd (List·Memᴰ·not-nil m)
+  claims-fit (a ∷ acts) s f e x m =
       let p = cond-true (allowed form n s a) (keeps form n (after s a) acts) e in
       ⊎-elim
-      (λ (h : List·Memᴰ c (signs s a)). claim-fits s a (p .0) f c h)
-      (λ (h : List·Memᴰ c (signed (after s a) acts)). claims-fit acts (after s a) (fits-after s a (p .0) f) (p .1) c h)
+      (λ (h : List·Memᴰ x (signs s a)). claim-fits s a (p .0) f x h)
+      (λ (h : List·Memᴰ x (signed (after s a) acts)). claims-fit acts (after s a) (fits-after s a (p .0) f) (p .1) x h)
       (List·Memᴰ·append-cases (signs s a) m)
 
   -- from the first state on
-  pub signed-fits : (acts : List Act) → keeps form n first acts ≡ true → (c : Claim) → List·Memᴰ c (signed first acts) → ClaimFits form c
+  pub signed-fits : (acts : List Act) → keeps form n first acts ≡ true
+      → (x : Signing) → List·Memᴰ x (signed first acts) → ClaimFits form (x .claim)
   unfolding first
-  signed-fits acts e c m =
-      claims-fit acts first (record { term = pow-256-pos (form .termBytes); index = lit< tt; records = empty }) e c m
+  signed-fits acts e x m =
+      claims-fit acts first (record { term = pow-256-pos (form .termBytes); index = lit< tt; records = empty }) e x m
 
 -- ---- the logs of the claims signed
 
 module _ (form : Form) where
   -- an act signs a beginning of the log before it
-  strings-of-log : (s : State) (a : Act) (c : Claim) → List·Memᴰ c (signs s a)
-      → (x : List ℕ) → List·Memᴰ x (stringsOf form c) → List·Memᴰ x (chainStrings form (s .log))
-  unfolding signs stringsOf
-  strings-of-log s (raise t) c m x h = absurd (List·Memᴰ·not-nil m)
-  strings-of-log s (vote b) c m x h =
-      absurd (List·Memᴰ·not-nil (subst (λ (d : Claim). List·Memᴰ x (stringsOf form d)) (List·Memᴰ·eq-of-singleton m) h))
-  strings-of-log s (run k records) c m x h = absurd (List·Memᴰ·not-nil m)
-  strings-of-log s (add r) c m x h = absurd (List·Memᴰ·not-nil m)
-  strings-of-log s stamp c m x h = subst (λ (d : Claim). List·Memᴰ x (stringsOf form d)) (List·Memᴰ·eq-of-singleton m) h
-  strings-of-log s (receipt i) c m x h =
-      strings-take form i (s .log) x (subst (λ (d : Claim). List·Memᴰ x (stringsOf form d)) (List·Memᴰ·eq-of-singleton m) h)
-  strings-of-log s decline c m x h = absurd (List·Memᴰ·not-nil m)
-  strings-of-log s restart c m x h = absurd (List·Memᴰ·not-nil m)
+  strings-of-log : (s : State) (a : Act) (z : Signing) → List·Memᴰ z (signs s a)
+      → (x : List ℕ) → List·Memᴰ x (stringsOf form (z .claim)) → List·Memᴰ x (chainStrings form (s .log))
+  unfolding signs signing stringsOf
+  strings-of-log s (raise t) z m x h = absurd (List·Memᴰ·not-nil m)
+  strings-of-log s (vote q b) z m x h =
+      absurd (List·Memᴰ·not-nil (subst (λ (d : Signing). List·Memᴰ x (stringsOf form (d .claim))) (List·Memᴰ·eq-of-singleton m) h))
+  strings-of-log s (run k records) z m x h = absurd (List·Memᴰ·not-nil m)
+  strings-of-log s (add r) z m x h = absurd (List·Memᴰ·not-nil m)
+  strings-of-log s (stamp q) z m x h = subst (λ (d : Signing). List·Memᴰ x (stringsOf form (d .claim))) (List·Memᴰ·eq-of-singleton m) h
+  strings-of-log s (receipt q i) z m x h =
+      strings-take form i (s .log) x (subst (λ (d : Signing). List·Memᴰ x (stringsOf form (d .claim))) (List·Memᴰ·eq-of-singleton m) h)
+  strings-of-log s decline z m x h = absurd (List·Memᴰ·not-nil m)
+  strings-of-log s restart z m x h = absurd (List·Memᴰ·not-nil m)
 
   -- over a list of acts, from any state
-  pub signed-held : (acts : List Act) (s : State) (c : Claim) → List·Memᴰ c (signed s acts)
-      → (x : List ℕ) → List·Memᴰ x (stringsOf form c) → List·Memᴰ x (flatMap (chainStrings form) (held s acts))
+  pub signed-held : (acts : List Act) (s : State) (z : Signing) → List·Memᴰ z (signed s acts)
+      → (x : List ℕ) → List·Memᴰ x (stringsOf form (z .claim)) → List·Memᴰ x (flatMap (chainStrings form) (held s acts))
   unfolding signed held flatMap
-  signed-held [] s c m x h = absurd (List·Memᴰ·not-nil m)
-  signed-held (a ∷ acts) s c m x h =
+  signed-held [] s z m x h = absurd (List·Memᴰ·not-nil m)
+  signed-held (a ∷ acts) s z m x h =
       ⊎-elim
-      (λ (k : List·Memᴰ c (signs s a)).
-      Memᴰ·append-left (flatMap (chainStrings form) (held (after s a) acts)) (strings-of-log s a c k x h))
-      (λ (k : List·Memᴰ c (signed (after s a) acts)). Memᴰ·append-right (chainStrings form (s .log)) (signed-held acts (after s a) c k x h))
+      (λ (k : List·Memᴰ z (signs s a)).
+      Memᴰ·append-left (flatMap (chainStrings form) (held (after s a) acts)) (strings-of-log s a z k x h))
+      (λ (k : List·Memᴰ z (signed (after s a) acts)). Memᴰ·append-right (chainStrings form (s .log)) (signed-held acts (after s a) z k x h))
       (List·Memᴰ·append-cases (signs s a) m)

@@ -1,5 +1,5 @@
--- The four rules (document 01, "The report"): what one claim from the first and one from the second
--- submission break.
+-- The rules (document 01, "The report"): 1 to 4, what one claim from the first and one from the second
+-- submission break, and 5 (document 02, W5), what two uses of a replica's leaves do.
 use mathlib.Core.Bool.{Bool, true, false, not, cond}
 use mathlib.Core.Path.{_≡_}
 use mathlib.Core.List.{List, [], _∷_, List·Memᴰ}
@@ -9,7 +9,9 @@ use lib.ListN.{length}
 use Rattle.log_chain.specs.Log.{Form, Record}
 use Rattle.log_chain.specs.Ends.{staler}
 use Rattle.log_chain.specs.Difference.{agree}
-use Rattle.replica.specs.Replica.{Act, first, keeps, signed, sameRequest}
+use Rattle.lm_format.specs.Leaf.{leafNumber}
+use Rattle.lm_format.specs.Uses.{Use, reused}
+use Rattle.replica.specs.Replica.{Signing, Act, first, keeps, signed, useIn, sameRequest}
 use Rattle.log_chain.specs.Claim.{Ballot, Claim, stamped, received, voted}
 
 pub record Charge : Type 0 where
@@ -44,11 +46,16 @@ clash (stamped t l) (received u m) = []
 clash (received t l) (stamped u m) = []
 clash (received t l) (received u m) = []
 
+-- rule 5: the row has the leaf's number in place of a term
+unfoldable pub leafClash : Use → Use → List Charge
+leafClash x y = charge (reused x y) 5 (leafNumber (x .leaf))
+
 -- ---- the claim
 
--- a replica that keeps the board rules from the first state on signs no two claims that break a rule,
--- whichever submission has the one and which the other: one claim over the whole list of acts
+-- a replica that keeps the board rules and the leaf rule from the first state on signs no two claims that
+-- break a rule, whichever submission has the one and which the other: one claim over the whole list of acts
 unfoldable pub NeverCharged : Form → ℕ → Type 0
 NeverCharged form n =
     (acts : List Act) → keeps form n first acts ≡ true
-    → (c d : Claim) → List·Memᴰ c (signed first acts) → List·Memᴰ d (signed first acts) → clash c d ≡ []
+    → (x y : Signing) → List·Memᴰ x (signed first acts) → List·Memᴰ y (signed first acts)
+    → (clash (x .claim) (y .claim) ≡ []) × (leafClash (useIn form x) (useIn form y) ≡ [])

@@ -1,5 +1,5 @@
--- The board rules (document 01, "Board rules"): state, acts, what each act may do, leaves behind and signs. A
--- replica is document 01's board.
+-- The board rules (document 01, "Board rules"; the leaf rule: document 02, W5): state, acts, what each act
+-- may do, leaves behind and signs. A replica is document 01's board.
 use mathlib.Core.Bool.{Bool, true, false, not, cond}
 use mathlib.Core.List.{List, [], _∷_, _++_}
 use mathlib.Core.Option.{Option, some, none}
@@ -7,28 +7,41 @@ use Prim.Native.Nat.{ℕ, _+_, _^_}
 use lib.Dec.{leb, ltb, eqb}
 use lib.ListN.{length, take}
 use Rattle.words.specs.BigEndian.{same}
-use Rattle.refusal.specs.Checks.{all}
+use Rattle.refusal.specs.Checks.{all, every}
+use Rattle.lm_format.specs.Leaf.{Leaf}
+use Rattle.lm_format.specs.Uses.{Use, useOf, reused}
 use Rattle.log_chain.specs.Log.{Form, Record, lastTerm}
 use Rattle.log_chain.specs.Ends.{rising, staler}
-use Rattle.log_chain.specs.Claim.{Ballot, Claim, stamped, received, voted}
+use Rattle.log_chain.specs.Claim.{Ballot, Claim, stamped, received, voted, say}
+
+-- a claim that was signed, and the leaf that it was signed with
+pub record Signing : Type 0 where
+  pub leaf : Leaf
+  pub claim : Claim
+
+unfoldable pub signing : Leaf → Claim → Signing
+signing leaf claim = record { leaf = leaf; claim = claim }
 
 pub record State : Type 0 where
   pub term : ℕ
   pub vote : Option Ballot
   pub stamp : Option ℕ
   pub log : List Record
+  -- the leaves used, each with what it signed; the message is that claim's bytes
+  pub used : List Signing
 
--- at first: term 0, no vote, no stamp, an empty log
+-- at first: term 0, no vote, no stamp, an empty log, no leaf used
 unfoldable pub first : State
-first = record { term = 0; vote = none; stamp = none; log = [] }
+first = record { term = 0; vote = none; stamp = none; log = []; used = [] }
 
+-- an act that signs does so with one leaf
 pub data Act : Type 0 where
   raise : ℕ → Act
-  vote : Ballot → Act
+  vote : Leaf → Ballot → Act
   run : ℕ → List Record → Act
   add : Record → Act
-  stamp : Act
-  receipt : ℕ → Act
+  stamp : Leaf → Act
+  receipt : Leaf → ℕ → Act
   decline restart : Act
 
 -- ---- fields that fit
@@ -78,7 +91,7 @@ module _ (form : Form) (n : ℕ) where
   rules s (raise t) =
       leb (s .term) t ∷  -- its term never falls
       fitsTerm form t ∷ []
-  rules s (vote b) =
+  rules s (vote q b) =
       leb (s .term) (b .term) ∷  -- t is not below its own term
       leb 1 (b .candidate) ∷ leb (b .candidate) n ∷  -- a candidate 1 to n
       oneRequest (s .vote) b ∷  -- all votes of one term are for one request
@@ -98,40 +111,63 @@ module _ (form : Form) (n : ℕ) where
       eqb (r .term) (s .term) ∷  -- a record of its own term
       ltb 0 (r .term) ∷  -- above 0
       fitsRecords form (r ∷ []) ∷ fitsIndex (length (s .log) + 1) ∷ []
-  rules s stamp =
+  rules s (stamp q) =
       ltb 0 (length (s .log)) ∷  -- the last record of its own log
       eqb (lastTerm (s .log)) (s .term) ∷ []  -- which has its own term
-  rules s (receipt i) =
+  rules s (receipt q i) =
       ltb 0 i ∷ leb i (length (s .log)) ∷  -- a record in its own log
       eqb (lastTerm (take i (s .log))) (s .term) ∷ []  -- which has its own term
   rules s decline = []
   rules s restart = []
 
-  unfoldable pub allowed : State → Act → Bool
-  allowed s a = all (rules s a)
-
--- the state after an act
-unfoldable pub after : State → Act → State
-after s (raise t) = record { term = t; vote = s .vote; stamp = s .stamp; log = s .log }
-after s (vote b) = record { term = b .term; vote = some b; stamp = s .stamp; log = s .log }
-after s (run k records) =
-    record { term = s .term; vote = s .vote; stamp = s .stamp; log = take k (s .log) ++ records }
-after s (add r) = record { term = s .term; vote = s .vote; stamp = s .stamp; log = s .log ++ (r ∷ []) }
-after s stamp = record { term = s .term; vote = s .vote; stamp = some (s .term); log = s .log }
-after s (receipt i) = s
-after s decline = s
-after s restart = s
-
 -- what an act signs
-unfoldable pub signs : State → Act → List Claim
+unfoldable pub signs : State → Act → List Signing
 signs s (raise t) = []
-signs s (vote b) = voted b ∷ []
+signs s (vote q b) = signing q (voted b) ∷ []
 signs s (run k records) = []
 signs s (add r) = []
-signs s stamp = stamped (s .term) (s .log) ∷ []
-signs s (receipt i) = received (s .term) (take i (s .log)) ∷ []
+signs s (stamp q) = signing q (stamped (s .term) (s .log)) ∷ []
+signs s (receipt q i) = signing q (received (s .term) (take i (s .log))) ∷ []
 signs s decline = []
 signs s restart = []
+
+-- ---- the leaf rule, apart from the board rules: one leaf, one message
+
+-- the leaf, with the message's bytes
+unfoldable pub useIn : Form → Signing → Use
+useIn form x = useOf (x .leaf) (say form (x .claim))
+
+-- no leaf used before signs another message now
+unfoldable pub oneMessage : Form → List Signing → Signing → Bool
+oneMessage form used x = every (λ u. not (reused (useIn form u) (useIn form x))) used
+
+unfoldable pub leafRule : Form → State → Act → Bool
+leafRule form s a = every (oneMessage form (s .used)) (signs s a)
+
+-- ---- both
+
+unfoldable pub allowed : Form → ℕ → State → Act → Bool
+allowed form n s a = all (all (rules form n s a) ∷ leafRule form s a ∷ [])
+
+-- the state after an act, with the leaves used by then
+unfoldable pub moved : State → Act → List Signing → State
+moved s (raise t) used =
+    record { term = t; vote = s .vote; stamp = s .stamp; log = s .log; used = used }
+moved s (vote q b) used =
+    record { term = b .term; vote = some b; stamp = s .stamp; log = s .log; used = used }
+moved s (run k records) used =
+    record { term = s .term; vote = s .vote; stamp = s .stamp; log = take k (s .log) ++ records; used = used }
+moved s (add r) used =
+    record { term = s .term; vote = s .vote; stamp = s .stamp; log = s .log ++ (r ∷ []); used = used }
+moved s (stamp q) used =
+    record { term = s .term; vote = s .vote; stamp = some (s .term); log = s .log; used = used }
+moved s (receipt q i) used =
+    record { term = s .term; vote = s .vote; stamp = s .stamp; log = s .log; used = used }
+moved s decline used = s
+moved s restart used = s
+
+unfoldable pub after : State → Act → State
+after s a = moved s a (signs s a ++ s .used)
 
 -- ---- over a list of acts, each on the state that the one before left
 
@@ -139,7 +175,7 @@ unfoldable pub keeps : Form → ℕ → State → List Act → Bool
 keeps form n s [] = true
 keeps form n s (a ∷ acts) = cond (allowed form n s a) (keeps form n (after s a) acts) false
 
-unfoldable pub signed : State → List Act → List Claim
+unfoldable pub signed : State → List Act → List Signing
 signed s [] = []
 signed s (a ∷ acts) = signs s a ++ signed (after s a) acts
 
