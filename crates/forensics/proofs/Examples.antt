@@ -1,23 +1,27 @@
--- Worked examples: the two forks of document 01, "Bench figures", its "Faults a bench would miss", and which charge a row takes. Signatures do not
--- matter here and are left empty.
+-- Worked examples: the two forks of document 01, "Bench figures", its "Faults a bench would miss", which charge a row takes, and rule 5. Signatures
+-- matter to rule 5 alone and are left empty elsewhere.
 -- Assumes nothing.
 use mathlib.Core.Path.{_≡_, refl}
 use mathlib.Core.List.{List, [], _∷_, flatMap, map}
 use mathlib.Core.Option.{Option, some, none}
 use Prim.Native.Nat.{ℕ}
-use lib.ListN.{replicate}
+use lib.ListN.{replicate, getD}
 use Rattle.words.specs.BigEndian.{same}
 use Rattle.refusal.specs.Checks.{all}
+use Rattle.lm_format.specs.Leaf.{sameLeaf, leafNumber}
+use Rattle.lm_format.specs.Uses.{useOf, reused}
 use Rattle.roster.specs.Masks.{replicasFrom, replicasOf}
 use Rattle.log_chain.specs.Log.{Record, termFrom, lastTerm}
+use Rattle.log_chain.specs.Claim.{Claim, stamped, received, voted}
 use Rattle.log_chain.specs.Ends.{staler}
 use Rattle.replica.specs.Replica.{sameRequest}
-use Rattle.replica.specs.Charges.{Charge, charge, clash, twoVotes, twoStamps, staleVote}
+use Rattle.replica.specs.Charges.{Charge, charge, clash, twoVotes, twoStamps, staleVote, leafClash}
 use Rattle.log_chain.specs.Difference.{agree, sameRecord}
 use Rattle.log_chain.specs.Runs.{run, runsFrom, runs, runsAfter}
-use Rattle.submission.specs.View.{Certificate, View, leadsOf, leads, committedBy, committed, slot, certified, votesOf, stampOf, receiptsOf, slots}
+use Rattle.submission.specs.View.{Certificate, View, leadsOf, leads, committedBy, committed, Slot, slot, certified, votesOf, stampOf, receiptsOf, slots}
+use Rattle.submission.specs.Validate.{uses}
 use Rattle.log_chain.specs.Difference.{differAt}
-use Rattle.forensics.specs.Findings.{fork, says, charges, sooner, lower, lowest, rowsFrom, bit, maskOf, Findings, findings}
+use Rattle.forensics.specs.Findings.{fork, says, charges, leafCharges, allCharges, sooner, lower, lowest, rowsFrom, bit, maskOf, Findings, findings}
 
 -- a record of a term, with one byte of its payload digest
 of : ℕ → ℕ → Record
@@ -46,13 +50,17 @@ row rule term = some (record { rule = rule; term = term })
 found : ℕ → Option Charge → Option Charge → Option Charge → Findings
 found i x y z = record { fork = i; rows = x ∷ y ∷ z ∷ replicate 6 none }
 
+-- one leaf and one message for all signatures, so that rule 5 charges nobody
+shown : View → View → Findings
+shown a b = findings (λ x. useOf 0 []) 0 a b
+
 -- ---- document 01's forks, with three replicas
 
 -- one leader, two records of term 1: `fork 1`, `board 1 rule 2 term 1`
-one-leader : findings 0 (with-commit (of 1 1 ∷ []) (elected 1 1 0 0 0b011 ∷ []) 1 0b011) (with-commit (of 1 2 ∷ []) (elected 1 1 0 0 0b011 ∷ []) 1 0b101)
+one-leader : shown (with-commit (of 1 1 ∷ []) (elected 1 1 0 0 0b011 ∷ []) 1 0b011) (with-commit (of 1 2 ∷ []) (elected 1 1 0 0 0b011 ∷ []) 1 0b101)
     ≡ found 1 (row 2 1) none none
-unfolding findings found row with-commit elected electedOn of fork committed committedBy differAt slots leads leadsOf runs runsAfter runsFrom run votesOf stampOf receiptsOf certified slot replicasOf
-    replicasFrom lastTerm termFrom flatMap rowsFrom charges says clash charge twoVotes sameRequest all twoStamps staleVote staler agree sameRecord same lowest lower sooner
+unfolding shown findings found row with-commit elected electedOn of fork committed committedBy differAt slots leads leadsOf runs runsAfter runsFrom run votesOf stampOf receiptsOf certified slot replicasOf
+    replicasFrom lastTerm termFrom flatMap rowsFrom allCharges leafCharges uses leafClash reused sameLeaf leafNumber useOf charges says clash charge twoVotes sameRequest all twoStamps staleVote staler agree sameRecord same lowest lower sooner
 one-leader = refl
 
 first-log : View
@@ -63,32 +71,32 @@ second-log = with-commit (of 2 2 ∷ []) (elected 3 2 0 0 0b110 ∷ []) 1 0b110
 
 -- a leader elected on an empty log after a commit: `fork 1`, `board 2 rule 3 term 2`; exchanged, rule 4. Of the two quorums only replica 2
 -- signed both certificates, and nobody else is charged
-stale-leader : (findings 0 first-log second-log ≡ found 1 none (row 3 2) none) × (findings 0 second-log first-log ≡ found 1 none (row 4 2) none)
-unfolding findings found row first-log second-log with-commit elected electedOn of fork committed committedBy differAt slots leads leadsOf runs runsAfter runsFrom run votesOf stampOf receiptsOf certified
-    slot replicasOf replicasFrom lastTerm termFrom flatMap rowsFrom charges says clash charge twoVotes sameRequest all twoStamps staleVote staler agree sameRecord same lowest lower sooner
+stale-leader : (shown first-log second-log ≡ found 1 none (row 3 2) none) × (shown second-log first-log ≡ found 1 none (row 4 2) none)
+unfolding shown findings found row first-log second-log with-commit elected electedOn of fork committed committedBy differAt slots leads leadsOf runs runsAfter runsFrom run votesOf stampOf receiptsOf certified
+    slot replicasOf replicasFrom lastTerm termFrom flatMap rowsFrom allCharges leafCharges uses leafClash reused sameLeaf leafNumber useOf charges says clash charge twoVotes sameRequest all twoStamps staleVote staler agree sameRecord same lowest lower sooner
 stale-leader = (refl, refl)
 
 -- ---- faults that a bench would miss: nobody is charged
 
 -- a log that is a beginning of the other, so that the last stamps' pointers differ
-beginning : findings 0 (with-commit (of 1 1 ∷ []) (elected 1 1 0 0 0b011 ∷ []) 1 0b011) (with-commit (of 1 1 ∷ of 1 2 ∷ []) (elected 1 1 0 0 0b011 ∷ []) 2 0b011)
+beginning : shown (with-commit (of 1 1 ∷ []) (elected 1 1 0 0 0b011 ∷ []) 1 0b011) (with-commit (of 1 1 ∷ of 1 2 ∷ []) (elected 1 1 0 0 0b011 ∷ []) 2 0b011)
     ≡ found 0 none none none
-unfolding findings found with-commit elected electedOn of fork committed committedBy differAt slots leads leadsOf runs runsAfter runsFrom run votesOf stampOf receiptsOf certified slot replicasOf
-    replicasFrom lastTerm termFrom flatMap rowsFrom charges says clash charge twoVotes sameRequest all twoStamps staleVote staler agree sameRecord same lowest lower sooner
+unfolding shown findings found with-commit elected electedOn of fork committed committedBy differAt slots leads leadsOf runs runsAfter runsFrom run votesOf stampOf receiptsOf certified slot replicasOf
+    replicasFrom lastTerm termFrom flatMap rowsFrom allCharges leafCharges uses leafClash reused sameLeaf leafNumber useOf charges says clash charge twoVotes sameRequest all twoStamps staleVote staler agree sameRecord same lowest lower sooner
 beginning = refl
 
 -- term before index: replica 2 gave a receipt for (1, 2) and voted on (2, 1), whose index is lower and whose term is higher, and is not charged. Replica
 -- 1 voted on the empty log after its receipt, and is
-term-first : findings 0 (with-commit (of 1 1 ∷ of 1 2 ∷ []) (elected 1 1 0 0 0b011 ∷ []) 2 0b011) (without (of 2 1 ∷ of 3 1 ∷ []) (elected 3 2 0 0 0b101 ∷ elected 3 3 2 1 0b110 ∷ []))
+term-first : shown (with-commit (of 1 1 ∷ of 1 2 ∷ []) (elected 1 1 0 0 0b011 ∷ []) 2 0b011) (without (of 2 1 ∷ of 3 1 ∷ []) (elected 3 2 0 0 0b101 ∷ elected 3 3 2 1 0b110 ∷ []))
     ≡ found 0 (row 3 2) none none
-unfolding findings found row with-commit without elected electedOn of fork committed committedBy differAt slots leads leadsOf runs runsAfter runsFrom run votesOf stampOf receiptsOf certified slot replicasOf
-    replicasFrom lastTerm termFrom flatMap rowsFrom charges says clash charge twoVotes sameRequest all twoStamps staleVote staler agree sameRecord same lowest lower sooner
+unfolding shown findings found row with-commit without elected electedOn of fork committed committedBy differAt slots leads leadsOf runs runsAfter runsFrom run votesOf stampOf receiptsOf certified slot replicasOf
+    replicasFrom lastTerm termFrom flatMap rowsFrom allCharges leafCharges uses leafClash reused sameLeaf leafNumber useOf charges says clash charge twoVotes sameRequest all twoStamps staleVote staler agree sameRecord same lowest lower sooner
 term-first = refl
 
 -- one leader's stamps in two different terms, on different logs
-two-terms : findings 0 (without (of 1 1 ∷ []) (elected 1 1 0 0 0b011 ∷ [])) (without (of 2 2 ∷ []) (elected 1 2 0 0 0b011 ∷ [])) ≡ found 0 none none none
-unfolding findings found without elected electedOn of fork committed committedBy differAt slots leads leadsOf runs runsAfter runsFrom run votesOf stampOf receiptsOf certified slot replicasOf
-    replicasFrom lastTerm termFrom flatMap rowsFrom charges says clash charge twoVotes sameRequest all twoStamps staleVote staler agree sameRecord same lowest lower sooner
+two-terms : shown (without (of 1 1 ∷ []) (elected 1 1 0 0 0b011 ∷ [])) (without (of 2 2 ∷ []) (elected 1 2 0 0 0b011 ∷ [])) ≡ found 0 none none none
+unfolding shown findings found without elected electedOn of fork committed committedBy differAt slots leads leadsOf runs runsAfter runsFrom run votesOf stampOf receiptsOf certified slot replicasOf
+    replicasFrom lastTerm termFrom flatMap rowsFrom allCharges leafCharges uses leafClash reused sameLeaf leafNumber useOf charges says clash charge twoVotes sameRequest all twoStamps staleVote staler agree sameRecord same lowest lower sooner
 two-terms = refl
 
 -- ---- forks and rows
@@ -108,10 +116,10 @@ unfolding row lowest lower sooner staler maskOf bit
 rows = (refl, refl, refl, refl)
 
 -- votes of one term for different candidates: only the replica that signed both certificates is charged
-two-candidates : findings 0 (without (of 4 1 ∷ []) (elected 1 4 0 0 0b011 ∷ [])) (without (of 4 2 ∷ []) (elected 2 4 0 0 0b110 ∷ []))
+two-candidates : shown (without (of 4 1 ∷ []) (elected 1 4 0 0 0b011 ∷ [])) (without (of 4 2 ∷ []) (elected 2 4 0 0 0b110 ∷ []))
     ≡ found 0 none (row 1 4) none
-unfolding findings found row without elected electedOn of fork committed committedBy differAt slots leads leadsOf runs runsAfter runsFrom run votesOf stampOf receiptsOf certified slot replicasOf
-    replicasFrom lastTerm termFrom flatMap rowsFrom charges says clash charge twoVotes sameRequest all twoStamps staleVote staler agree sameRecord same lowest lower sooner
+unfolding shown findings found row without elected electedOn of fork committed committedBy differAt slots leads leadsOf runs runsAfter runsFrom run votesOf stampOf receiptsOf certified slot replicasOf
+    replicasFrom lastTerm termFrom flatMap rowsFrom allCharges leafCharges uses leafClash reused sameLeaf leafNumber useOf charges says clash charge twoVotes sameRequest all twoStamps staleVote staler agree sameRecord same lowest lower sooner
 two-candidates = refl
 
 -- two terms, the second with this leader certificate
@@ -121,10 +129,55 @@ led-by c = without (of 3 0 ∷ of 4 1 ∷ []) (elected 1 3 0 0 0b011 ∷ c ∷ [
 -- votes of one term for one candidate and two requests, whose last pointer, last index or last term alone is another: only those who signed both
 -- certificates are charged. One request in both charges nobody, whoever signed
 two-requests : (let a = led-by (electedOn (7 ∷ []) 3 4 3 1 0b110) in
-    (findings 0 a (led-by (electedOn (8 ∷ []) 3 4 3 1 0b111)) ≡ found 0 none (row 1 4) (row 1 4))
-    × (findings 0 a (led-by (electedOn (7 ∷ []) 3 4 3 2 0b011)) ≡ found 0 none (row 1 4) none)
-    × (findings 0 a (led-by (electedOn (7 ∷ []) 3 4 2 1 0b101)) ≡ found 0 none none (row 1 4))
-    × (findings 0 a (led-by (electedOn (7 ∷ []) 3 4 3 1 0b111)) ≡ found 0 none none none))
-unfolding findings found row led-by without elected electedOn of fork committed committedBy differAt slots leads leadsOf runs runsAfter runsFrom run votesOf stampOf receiptsOf certified slot replicasOf
-    replicasFrom lastTerm termFrom flatMap rowsFrom charges says clash charge twoVotes sameRequest all twoStamps staleVote staler agree sameRecord same lowest lower sooner
+    (shown a (led-by (electedOn (8 ∷ []) 3 4 3 1 0b111)) ≡ found 0 none (row 1 4) (row 1 4))
+    × (shown a (led-by (electedOn (7 ∷ []) 3 4 3 2 0b011)) ≡ found 0 none (row 1 4) none)
+    × (shown a (led-by (electedOn (7 ∷ []) 3 4 2 1 0b101)) ≡ found 0 none none (row 1 4))
+    × (shown a (led-by (electedOn (7 ∷ []) 3 4 3 1 0b111)) ≡ found 0 none none none))
+unfolding shown findings found row led-by without elected electedOn of fork committed committedBy differAt slots leads leadsOf runs runsAfter runsFrom run votesOf stampOf receiptsOf certified slot replicasOf
+    replicasFrom lastTerm termFrom flatMap rowsFrom allCharges leafCharges uses leafClash reused sameLeaf leafNumber useOf charges says clash charge twoVotes sameRequest all twoStamps staleVote staler agree sameRecord same lowest lower sooner
 two-requests = (refl, refl, refl, refl)
+
+-- ---- rule 5
+
+-- a signature is one byte here, its leaf; a message has the kind, the term and the payload digests
+message : Claim → List ℕ
+message (stamped t log) = 1 ∷ t ∷ flatMap (λ (r : Record). r .digest) log
+message (received t log) = 2 ∷ t ∷ flatMap (λ (r : Record). r .digest) log
+message (voted b) = 3 ∷ b .term ∷ []
+
+leaves-shown : View → View → Findings
+leaves-shown a b = findings (λ (x : Slot). useOf (getD (x .signature) 0 0) (message (x .claim))) 1 a b
+
+-- a committed record of term 1, with the leaves of replica 1's vote, stamp and receipt, then of replica 2's vote and receipt
+leaves : ℕ → ℕ → ℕ → ℕ → ℕ → ℕ → View
+leaves x vote stamp receipt vote₂ receipt₂ =
+    record {
+      log = of 1 x ∷ [];
+      leaders = record { ballot = elected 1 1 0 0 0b011 .ballot; signers = 0b011; signatures = vote ∷ vote₂ ∷ [] } ∷ [];
+      stamps = (stamp ∷ []) ∷ [];
+      commit = some (record { index = 1; signers = 0b011; signatures = receipt ∷ receipt₂ ∷ [] });
+    }
+
+-- nobody: the same leaves for the same messages in both; leaves 0 and 1 of two replicas, for different messages; another leaf for the same message
+one-message : (let a = leaves 1 0 1 2 1 0 in (leaves-shown a a ≡ found 0 none none none) × (leaves-shown a (leaves 1 5 6 7 5 6) ≡ found 0 none none none))
+unfolding leaves-shown leaves message findings found elected electedOn of fork committed committedBy differAt slots leads leadsOf runs runsAfter runsFrom run votesOf stampOf receiptsOf certified slot
+    replicasOf replicasFrom lastTerm termFrom flatMap rowsFrom allCharges leafCharges uses leafClash reused sameLeaf leafNumber useOf charges says clash charge twoVotes sameRequest all twoStamps staleVote staler agree sameRecord same lowest lower sooner
+one-message = (refl, refl)
+
+-- a leaf used twice inside the first submission, inside the second, across the two, whichever comes first; leaf 0, and its bit; of two such leaves the lower,
+-- whose signatures stand later; one of each of two replicas
+two-messages : (let a = leaves 1 0 1 2 1 0 in (leaves-shown (leaves 1 0 5 5 1 0) a ≡ found 0 (row 5 5) none none)
+    × (leaves-shown a (leaves 1 0 5 5 1 0) ≡ found 0 (row 5 5) none none)
+    × (leaves-shown a (leaves 1 0 7 1 1 0) ≡ found 0 (row 5 1) none none) × (leaves-shown (leaves 1 0 7 1 1 0) a ≡ found 0 (row 5 1) none none)
+    × (leaves-shown a (leaves 1 8 0 2 1 0) ≡ found 0 (row 5 0) none none) × (maskOf (leaves-shown a (leaves 1 8 0 2 1 0) .rows) ≡ 0b001)
+    × (leaves-shown (leaves 1 9 9 3 1 0) (leaves 1 8 3 4 1 0) ≡ found 0 (row 5 3) none none)
+    × (leaves-shown a (leaves 1 0 5 5 6 6) ≡ found 0 (row 5 5) (row 5 6) none))
+unfolding leaves-shown leaves message findings found row elected electedOn of fork committed committedBy differAt slots leads leadsOf runs runsAfter runsFrom run votesOf stampOf receiptsOf certified slot
+    replicasOf replicasFrom lastTerm termFrom flatMap rowsFrom allCharges leafCharges uses leafClash reused sameLeaf leafNumber useOf charges says clash charge twoVotes sameRequest all twoStamps staleVote staler agree sameRecord same lowest lower sooner maskOf bit
+two-messages = (refl, refl, refl, refl, refl, refl, refl, refl)
+
+-- another rule comes before it: replica 1 stamped two logs and gave receipts for both, each with one leaf. Replica 2 has given receipts alone
+other-rule-first : leaves-shown (leaves 1 0 1 2 1 0) (leaves 2 0 1 2 1 0) ≡ found 1 (row 2 1) (row 5 0) none
+unfolding leaves-shown leaves message findings found row elected electedOn of fork committed committedBy differAt slots leads leadsOf runs runsAfter runsFrom run votesOf stampOf receiptsOf certified slot
+    replicasOf replicasFrom lastTerm termFrom flatMap rowsFrom allCharges leafCharges uses leafClash reused sameLeaf leafNumber useOf charges says clash charge twoVotes sameRequest all twoStamps staleVote staler agree sameRecord same lowest lower sooner
+other-rule-first = refl

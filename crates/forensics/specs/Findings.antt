@@ -1,15 +1,18 @@
 -- What two submissions show (document 01, "The report"): the fork index, and for each replica the charge that
 -- its row has.
 use mathlib.Core.Bool.{Bool, cond}
-use mathlib.Core.List.{List, [], _∷_, flatMap}
+use mathlib.Core.List.{List, [], _∷_, _++_, flatMap}
 use mathlib.Core.Option.{Option, some, none}
 use Prim.Native.Nat.{ℕ, zero, suc, _+_, _*_}
 use lib.Dec.{eqb}
+use Rattle.lm_format.specs.Uses.{Use}
+use Rattle.roster.specs.Roster.{signatureSize}
 use Rattle.log_chain.specs.Claim.{Claim}
 use Rattle.log_chain.specs.Difference.{differAt}
 use Rattle.log_chain.specs.Ends.{staler}
-use Rattle.replica.specs.Charges.{Charge, clash}
+use Rattle.replica.specs.Charges.{Charge, clash, leafClash}
 use Rattle.submission.specs.View.{View, committed, Slot, slots}
+use Rattle.submission.specs.Validate.{slotUse, uses, formOf, viewOf}
 
 -- ---- the fork
 
@@ -24,13 +27,23 @@ unfoldable pub says : ℕ → List Slot → List Claim
 says k [] = []
 says k (x ∷ xs) = cond (eqb (x .replica) k) (x .claim ∷ says k xs) (says k xs)
 
--- the rules that one of replica k's statements from the first and one from the second submission break
+-- rules 1 to 4: what one of replica k's statements from the first and one from the second submission break
 unfoldable pub charges : ℕ → List Slot → List Slot → List Charge
 charges k xs ys = flatMap (λ c. flatMap (clash c) (says k ys)) (says k xs)
 
+-- over the use of a leaf that a signature is
+module _ (asUse : Slot → Use) where
+  -- rule 5 (document 02, W5): what two of replica k's signatures break, wherever they stand
+  unfoldable pub leafCharges : ℕ → List Slot → List Charge
+  leafCharges k zs = let us = uses asUse k zs in flatMap (λ x. flatMap (leafClash x) us) us
+
+  -- all rules: rule 5 in one or both submissions
+  unfoldable pub allCharges : ℕ → List Slot → List Slot → List Charge
+  allCharges k xs ys = charges k xs ys ++ leafCharges k (xs ++ ys)
+
 -- ---- the rows
 
--- the lowest rule broken and, for that rule, the lowest term
+-- the lowest rule broken and, for that rule, the lowest term or leaf number
 unfoldable pub sooner : Charge → Charge → Bool
 sooner c d = staler (c .rule) (c .term) (d .rule) (d .term)
 
@@ -43,9 +56,10 @@ lowest [] = none
 lowest (c ∷ cs) = some (lower c (lowest cs))
 
 -- the rows of so many replicas from replica k on
-unfoldable pub rowsFrom : ℕ → ℕ → List Slot → List Slot → List (Option Charge)
-rowsFrom zero k xs ys = []
-rowsFrom (suc count) k xs ys = lowest (charges k xs ys) ∷ rowsFrom count (suc k) xs ys
+unfoldable pub rowsFrom : (Slot → Use) → ℕ → ℕ → List Slot → List Slot → List (Option Charge)
+rowsFrom asUse zero k xs ys = []
+rowsFrom asUse (suc count) k xs ys =
+    lowest (allCharges asUse k xs ys) ∷ rowsFrom asUse count (suc k) xs ys
 
 -- a replica is named if its row has a charge: bit k - 1 for replica k
 unfoldable pub bit : Option Charge → ℕ
@@ -67,5 +81,11 @@ abbrev pub rowCount : ℕ
 rowCount = 9
 
 -- S is the bytes of a signature
-unfoldable pub findings : ℕ → View → View → Findings
-findings S a b = record { fork = fork a b; rows = rowsFrom rowCount 1 (slots S a) (slots S b) }
+unfoldable pub findings : (Slot → Use) → ℕ → View → View → Findings
+findings asUse S a b = record { fork = fork a b; rows = rowsFrom asUse rowCount 1 (slots S a) (slots S b) }
+
+-- of two submissions under a roster
+unfoldable pub foundIn : List ℕ → List ℕ → List ℕ → Findings
+foundIn roster first second =
+    let form = formOf roster in
+    findings (slotUse form roster) (signatureSize roster) (viewOf roster first) (viewOf roster second)

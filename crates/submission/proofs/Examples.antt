@@ -1,4 +1,5 @@
--- Worked examples of the checks 5 to 15: for each a value on either side. Signatures have one byte here, where only their count matters.
+-- Worked examples of the checks 5 to 15: for each a value on either side; and the uses of leaves. Signatures have one byte here, where only their
+-- count matters.
 -- Assumes nothing.
 use mathlib.Core.Path.{_≡_, refl}
 use mathlib.Core.Bool.{Bool, true, false}
@@ -10,18 +11,20 @@ use lib.ListN.{length, take, replicate}
 use Rattle.words.specs.BigEndian.{number, be, numberAt, same}
 use Rattle.words.proofs.Same.{true-same}
 use Rattle.refusal.specs.Checks.{all, every}
+use Rattle.lm_format.specs.Leaf.{leafOf}
+use Rattle.lm_format.specs.Uses.{useOf}
 use Rattle.lms.specs.Check.{good}
 use Rattle.roster.specs.Roster.{quorum, keyOf}
 use Rattle.roster.specs.Masks.{signer, replicasFrom, replicasOf}
 use Rattle.log_chain.specs.Log.{Form, version1, Record, pointer, pointerFrom, termFrom, lastTerm}
-use Rattle.log_chain.specs.Claim.{Ballot, stamped, received, voted}
+use Rattle.log_chain.specs.Claim.{Ballot, stamped, received, voted, say}
 use Rattle.log_chain.specs.Ends.{rising}
 use Rattle.submission.specs.Trailer.{name, word, recordCount, leaderCount, distance, version}
 use Rattle.log_chain.specs.Runs.{run, runsFrom, runs, runsAfter}
-use Rattle.submission.specs.View.{Certificate, Commit, View, leadsOf, leads, slot, certified, votesOf, stampOf, receiptsOf, slots}
+use Rattle.submission.specs.View.{Certificate, Commit, View, leadsOf, leads, Slot, slot, certified, votesOf, stampOf, receiptsOf, slots}
 use Rattle.submission.specs.Reading.{view, laidOut, ballotSize, ballotAt, signersAt, certificateAt, certificateEnd, certificates, certificatesEnd, stampsAt, commitAt, commitEnd, leadersFrom, stampsFrom, commitFrom, commitOf}
 use Rattle.log_chain.specs.Records.{recordSize, recordsOf}
-use Rattle.submission.specs.Validate.{sized, versioned, named, counted, quorate, commitSigners, masks, ordered, oneEach, leading, within, genuine}
+use Rattle.submission.specs.Validate.{sized, versioned, named, counted, quorate, commitSigners, masks, ordered, oneEach, leading, within, genuine, slotUse, uses}
 
 form : Form
 form = version1 (replicate 16 7)
@@ -156,3 +159,16 @@ commits = (refl, refl, refl, refl, refl)
 signatures : (genuine form [] (slot 1 (stamped 4 (of 4 ∷ [])) (replicate 1292 0)) ≡ false) × (every (genuine form []) (slots 1 (logged [] [])) ≡ true)
 unfolding genuine good keyOf slot every slots logged leads leadsOf runs runsAfter receiptsOf flatMap
 signatures = (refl, refl)
+
+-- ---- the uses of leaves
+
+-- the leaf is the signature's first four bytes, the message what it stands on
+use-of-slot : (let c = stamped 4 (of 4 ∷ []) in slotUse form [] (slot 2 c (0 ∷ 0 ∷ 1 ∷ 2 ∷ 9 ∷ [])) ≡ useOf 258 (say form c))
+unfolding slotUse slot useOf leafOf numberAt number
+use-of-slot = refl
+
+-- those of one replica, in their order
+uses-of-one : (let at : ℕ → ℕ → Slot = λ k q. slot k (stamped 4 []) (q ∷ []) in
+    uses (λ (x : Slot). useOf 0 (x .signature)) 2 (at 1 5 ∷ at 2 6 ∷ at 3 7 ∷ at 2 8 ∷ []) ≡ useOf 0 (6 ∷ []) ∷ useOf 0 (8 ∷ []) ∷ [])
+unfolding uses slot useOf
+uses-of-one = refl

@@ -5,3 +5,7 @@ use Rattle.words.specs.Widths.{widthMost}
 -- the most bytes of a vote's fields: with the widest terms
 abbrev pub ballotMost : ℕ
 ballotMost = 2 + widthMost + widthMost + 4 + 32
+
+-- the most bytes of a statement: kind, cluster name, and a vote's fields
+abbrev pub statementMost : ℕ
+statementMost = 1 + 16 + ballotMost

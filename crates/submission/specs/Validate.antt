@@ -1,6 +1,6 @@
 -- The checks on a submission (document 01, "What stops an audit", 5 to 15), each beside the paper's words,
 -- and the number of the first that is not met.
-use mathlib.Core.Bool.{Bool, true}
+use mathlib.Core.Bool.{Bool, true, cond}
 use mathlib.Core.List.{List, [], _∷_, _++_, map}
 use mathlib.Core.Option.{Option, some, none}
 use Prim.Native.Nat.{ℕ, _^_}
@@ -9,6 +9,8 @@ use lib.Dec.{eqb, leb, ltb}
 use lib.ListN.{length}
 use Rattle.words.specs.BigEndian.{same}
 use Rattle.refusal.specs.Checks.{all, every, check, refusal}
+use Rattle.lm_format.specs.Leaf.{leafOf}
+use Rattle.lm_format.specs.Uses.{Use, useOf}
 use Rattle.lms.specs.Check.{good}
 use Rattle.roster.specs.Roster.{cluster, replicas, quorum, keyOf, signatureSize}
 use Rattle.roster.specs.Masks.{signer}
@@ -94,6 +96,15 @@ within (some c) H = all (ltb 0 (c .index) ∷ leb (c .index) H ∷ [])
 -- stamp
 unfoldable pub genuine : Form → List ℕ → Slot → Bool
 genuine form roster x = good (keyOf roster (x .replica)) (say form (x .claim)) (x .signature)
+
+-- the leaf of a signature, under the roster's key of its replica, and its message (document 02, W5)
+unfoldable pub slotUse : Form → List ℕ → Slot → Use
+slotUse form roster x = useOf (leafOf (keyOf roster (x .replica)) (x .signature)) (say form (x .claim))
+
+-- those of replica k's signatures, in their order
+unfoldable pub uses : (Slot → Use) → ℕ → List Slot → List Use
+uses asUse k [] = []
+uses asUse k (x ∷ xs) = cond (eqb (x .replica) k) (asUse x ∷ uses asUse k xs) (uses asUse k xs)
 
 -- ---- the number
 
