@@ -23,9 +23,9 @@ use Rattle.roster.proofs.Accepted.{sizes}
 use Rattle.log_chain.specs.Log.{Record}
 use Rattle.log_chain.specs.Difference.{agree}
 use Rattle.submission.specs.View.{committed}
-use Rattle.submission.specs.Validate.{validate, formOf, viewOf, slotsOf}
+use Rattle.submission.specs.Validate.{validate, slotUse, formOf, viewOf, slotsOf}
 use Rattle.submission.proofs.Accepted.{validated}
-use Rattle.forensics.specs.Findings.{findings, rowCount}
+use Rattle.forensics.specs.Findings.{findings, foundIn, rowCount}
 use Rattle.forensics.proofs.Agree.{differ-at, agree-sym}
 use Rattle.forensics.proofs.Naming.{naming as views-naming}
 use Rattle.forensics.proofs.Rows.{mask-clear}
@@ -75,11 +75,11 @@ module _ (roster buffer lengths report : List ℕ) where
   -- an accepted pair that differs names somebody
   pair-named : rosterNumber roster ≡ 0 → (x y : Entry) → validate roster (x .bytes) ≡ 0 → validate roster (y .bytes) ≡ 0
       → agree (committed (viewOf roster (x .bytes))) (committed (viewOf roster (y .bytes))) ≡ false → 0 < mask roster (pair x y)
-  unfolding mask found pair
+  unfolding mask found foundIn pair
   pair-named r x y vx vy d =
       let few = sizes roster r in
-      views-naming (formOf roster) (replicas roster) (signatureSize roster) (omega (arith, few .low)) (few .high) (viewOf roster (x .bytes)) (viewOf roster (y .bytes))
-      (validated roster (x .bytes) vx .sound) (validated roster (y .bytes) vy .sound) d
+      views-naming (slotUse (formOf roster) roster) (formOf roster) (replicas roster) (signatureSize roster) (omega (arith, few .low)) (few .high)
+      (viewOf roster (x .bytes)) (viewOf roster (y .bytes)) (validated roster (x .bytes) vx .sound) (validated roster (y .bytes) vy .sound) d
 
   pub district-naming : DistrictNaming roster buffer lengths (districtNumber roster buffer lengths report) (districtAfter roster buffer lengths report)
   unfolding DistrictNaming accepted
@@ -108,7 +108,7 @@ module _ (roster buffer lengths report : List ℕ) where
 
   pub district-fairness : Bytes buffer
       → DistrictFairness roster buffer lengths (districtNumber roster buffer lengths report) (districtAfter roster buffer lengths report)
-  unfolding DistrictFairness Fair accepted mask found findings slotsOf
+  unfolding DistrictFairness Fair accepted mask found foundIn findings slotsOf
   district-fairness bytes e k low high acts keep own apart =
       let ss = parts lengths buffer in
       let entries = accepted roster ss in
@@ -121,5 +121,6 @@ module _ (roster buffer lengths report : List ℕ) where
       let none-charged = rows-fair roster (map (λ x. x .bytes) entries) (omega (arith, few .high)) k acts keep own apart (p .lower .bytes) (p .higher .bytes)
       (Memᴰ·map (λ x. x .bytes) (both .0)) (Memᴰ·map (λ x. x .bytes) (both .1))
       (part-bytes lengths buffer bytes (p .lower .bytes) (one .1)) (part-bytes lengths buffer bytes (p .higher .bytes) (other .1)) (one .0) (other .0) in
-      mask-clear (slotsOf roster (p .lower .bytes)) (slotsOf roster (p .higher .bytes)) rowCount k low (omega (arith, few .high, high)) none-charged in
+      mask-clear (slotUse (formOf roster) roster) (slotsOf roster (p .lower .bytes)) (slotsOf roster (p .higher .bytes)) rowCount k low
+      (omega (arith, few .high, high)) none-charged in
       rw (named-is e) (union-clear roster k (pairs entries) clear)

@@ -20,8 +20,8 @@ use Rattle.log_chain.specs.Difference.{differAt}
 use Rattle.submission.specs.Trailer.{name, word, recordCount, leaderCount, distance, version}
 use Rattle.submission.specs.View.{leads, leadsOf, committed, committedBy, slots, receiptsOf}
 use Rattle.submission.specs.Reading.{view, laidOut, certificates, certificatesEnd, stampsAt, leadersFrom, stampsFrom, commitFrom, commitOf}
-use Rattle.submission.specs.Validate.{sized as sizedSubmission, versioned, named, counted as countedSubmission, commitSigners, masks, ordered, oneEach, within, formOf, viewOf, slotsOf, validate}
-use Rattle.forensics.specs.Findings.{fork, says, charges, lowest, rowsFrom, bit, maskOf, findings}
+use Rattle.submission.specs.Validate.{sized as sizedSubmission, versioned, named, counted as countedSubmission, commitSigners, masks, ordered, oneEach, within, uses, formOf, viewOf, slotsOf, validate}
+use Rattle.forensics.specs.Findings.{fork, says, charges, leafCharges, allCharges, lowest, rowsFrom, bit, maskOf, findings, foundIn}
 use Rattle.report.specs.Figures.{sampleKey, sampleRoster, sampleSubmission}
 use Rattle.report.proofs.Premises.{three}
 use Rattle.district_parts.specs.Parts.{parts, counted, total, addsUp}
@@ -39,7 +39,7 @@ unwritten number room = number ∷ replicate room 9
 -- two empty logs with a submission of no bytes between them: its own number is 5, nobody is named, no pair forks, and two bytes are kept
 written : ran three (sampleSubmission ++ sampleSubmission) (44 ∷ 0 ∷ 44 ∷ []) 9 ≡ 0 ∷ (0 ∷ 5 ∷ 0 ∷ [] ++ replicate 4 0 ++ (9 ∷ 9 ∷ []))
 unfolding three ran districtNumber districtAfter districtBytes numberBytes tailBytes over first parts counted total sum addsUp entry acceptedFrom accepted pair pairs found union firstFork
-    shown sampleKey sampleRoster sampleSubmission findings fork committed committedBy differAt rowsFrom charges says lowest maskOf bit be number numberAt same flatMap all every check
+    shown sampleKey sampleRoster sampleSubmission foundIn findings fork committed committedBy differAt rowsFrom allCharges leafCharges uses charges says lowest maskOf bit be number numberAt same flatMap all every check
     refusal cluster replicas keyOf treeType oneTimeType everyReplica sized typed single rosterNumber version1 rising name word recordCount leaderCount distance version runs runsAfter
     leads leadsOf slots receiptsOf view laidOut recordSize recordsOf certificates certificatesEnd stampsAt leadersFrom stampsFrom commitFrom commitOf sizedSubmission versioned named
     countedSubmission commitSigners masks ordered oneEach within formOf viewOf slotsOf validate signatureSize signatureLength pathAt oneTimeBytes row levels height

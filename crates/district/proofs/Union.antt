@@ -10,7 +10,7 @@ use lib.Bits.{or-lt}
 use lib.Dec.{lit<}
 use Rattle.roster.specs.Masks.{signer}
 use Rattle.roster.proofs.Masks.{signer-none, or-le, or-clear, or-left, or-right}
-use Rattle.forensics.specs.Findings.{findings, rowsFrom, rowCount, maskOf}
+use Rattle.forensics.specs.Findings.{findings, foundIn, rowsFrom, rowCount, maskOf}
 use Rattle.forensics.proofs.Rows.{mask-small}
 use Rattle.district.specs.District.{Pair, found, union}
 
@@ -20,7 +20,7 @@ module _ (roster : List ℕ) where
   mask p = maskOf (found roster p .rows)
 
   mask-lt : (p : Pair) → mask p < 2 ^ rowCount
-  unfolding mask found findings rowsFrom
+  unfolding mask found foundIn findings rowsFrom
   mask-lt p = mask-small (found roster p .rows)
 
   pub union-has : (ps : List Pair) (p : Pair) → List·Memᴰ p ps → 0 < mask p → 0 < union roster ps

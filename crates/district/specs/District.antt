@@ -10,9 +10,9 @@ use lib.ListN.{length}
 use Rattle.words.specs.BigEndian.{be, numberAt}
 use Rattle.words.specs.Over.{over}
 use Rattle.refusal.specs.Checks.{check, refusal, first}
-use Rattle.roster.specs.Roster.{rosterNumber, signatureSize}
-use Rattle.submission.specs.Validate.{validate, viewOf}
-use Rattle.forensics.specs.Findings.{Findings, findings, maskOf}
+use Rattle.roster.specs.Roster.{rosterNumber}
+use Rattle.submission.specs.Validate.{validate}
+use Rattle.forensics.specs.Findings.{Findings, foundIn, maskOf}
 use Rattle.district_parts.specs.Parts.{parts, counted, addsUp}
 use Rattle.district.specs.declared.Fork.{Fork}
 use Rattle.district.specs.declared.Shown.{Shown}
@@ -55,8 +55,7 @@ pairs (a ∷ later) = map (pair a) later ++ pairs later
 
 -- the audit of a pair: its submissions are accepted, so that it is what they show
 unfoldable pub found : List ℕ → Pair → Findings
-found roster p =
-    findings (signatureSize roster) (viewOf roster (p .lower .bytes)) (viewOf roster (p .higher .bytes))
+found roster p = foundIn roster (p .lower .bytes) (p .higher .bytes)
 
 -- ---- what they show
 

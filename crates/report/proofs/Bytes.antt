@@ -10,9 +10,9 @@ use lib.Dec.{eqb}
 use Rattle.words.specs.BigEndian.{number, be, numberAt}
 use Rattle.words.proofs.Laws.{number-be}
 use Rattle.refusal.proofs.Laws.{look}
-use Rattle.roster.specs.Roster.{rosterNumber, signatureSize}
-use Rattle.submission.specs.Validate.{validate, viewOf}
-use Rattle.forensics.specs.Findings.{findings, maskOf}
+use Rattle.roster.specs.Roster.{rosterNumber}
+use Rattle.submission.specs.Validate.{validate}
+use Rattle.forensics.specs.Findings.{foundIn, maskOf}
 use Rattle.report.specs.Report.{Answer, refused, answer, reportBytes, namedIn}
 
 -- ---- the named replicas
@@ -26,7 +26,7 @@ named-in a rest h = number-be 2 (maskOf (a .findings .rows)) h
 -- all was accepted, or there was a refusal
 pub data Outcome (roster s₁ s₂ : List ℕ) : Type 0 where
   compared : rosterNumber roster ≡ 0 → validate roster s₁ ≡ 0 → validate roster s₂ ≡ 0
-      → answer roster s₁ s₂ ≡ record { number = 0; place = 0; findings = findings (signatureSize roster) (viewOf roster s₁) (viewOf roster s₂) }
+      → answer roster s₁ s₂ ≡ record { number = 0; place = 0; findings = foundIn roster s₁ s₂ }
       → Outcome roster s₁ s₂
   stopped : (number place : ℕ) → (number ≡ 0 → ⊥) → answer roster s₁ s₂ ≡ refused number place → Outcome roster s₁ s₂
 

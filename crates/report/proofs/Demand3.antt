@@ -16,9 +16,9 @@ use Rattle.roster.specs.Roster.{replicas, signatureSize}
 use Rattle.roster.specs.Masks.{signer}
 use Rattle.roster.proofs.Masks.{signer-none}
 use Rattle.roster.proofs.Accepted.{sizes}
-use Rattle.submission.specs.Validate.{formOf, viewOf, slotsOf}
+use Rattle.submission.specs.Validate.{slotUse, formOf, viewOf, slotsOf}
 use Rattle.submission.proofs.Accepted.{validated}
-use Rattle.forensics.specs.Findings.{findings, rowCount, rowsFrom, maskOf, bit}
+use Rattle.forensics.specs.Findings.{findings, foundIn, rowCount, rowsFrom, maskOf, bit}
 use Rattle.forensics.proofs.Agree.{differ-at}
 use Rattle.forensics.proofs.Naming.{naming as views-naming}
 use Rattle.forensics.proofs.Rows.{mask-small, mask-clear}
@@ -28,10 +28,9 @@ use Rattle.report.proofs.Bytes.{named-in, Outcome, compared, stopped, o
 use Rattle.report.proofs.Fairness.{rows-fair}
 
 -- nine rows have a mask that fits its two bytes
-mask-fits : (roster s₁ s₂ : List ℕ) → maskOf (findings (signatureSize roster) (viewOf roster s₁) (viewOf roster s₂) .rows) < 256 ^ 2
-unfolding findings rowsFrom
-mask-fits roster s₁ s₂ =
-    lt-of-lt-of-le (mask-small (findings (signatureSize roster) (viewOf roster s₁) (viewOf roster s₂) .rows)) (lit≤ tt)
+mask-fits : (roster s₁ s₂ : List ℕ) → maskOf (foundIn roster s₁ s₂ .rows) < 256 ^ 2
+unfolding foundIn findings rowsFrom
+mask-fits roster s₁ s₂ = lt-of-lt-of-le (mask-small (foundIn roster s₁ s₂ .rows)) (lit≤ tt)
 
 module _ (roster s₁ s₂ report : List ℕ) where
   -- a number other than 1: the report is written
@@ -51,7 +50,7 @@ module _ (roster s₁ s₂ report : List ℕ) where
   named-are e a d h = rw (e, d) (named-in a (drop reportSize report) h)
 
   pub naming : Naming roster s₁ s₂ (auditNumber roster s₁ s₂ report) (reportAfter roster s₁ s₂ report)
-  unfolding Naming refused
+  unfolding Naming refused foundIn
   naming zero-number differ nobody = go (long (λ one. omega (arith, one, zero-number))) (outcome roster s₁ s₂)
     where
       go : short report ≡ false → Outcome roster s₁ s₂ → ⊥
@@ -59,12 +58,13 @@ module _ (roster s₁ s₂ report : List ℕ) where
       go e (compared r v₁ v₂ d) =
           let few = sizes roster r in
           let apart = differ-at (differ .index) _ _ (differ .one) (differ .other) (differ .in-one) (differ .in-other) (differ .differ) in
-          let positive = views-naming (formOf roster) (replicas roster) (signatureSize roster) (omega (arith, few .low)) (few .high) (viewOf roster s₁) (viewOf roster s₂)
+          let positive = views-naming (slotUse (formOf roster) roster) (formOf roster) (replicas roster) (signatureSize roster) (omega (arith, few .low)) (few .high)
+          (viewOf roster s₁) (viewOf roster s₂)
           (validated roster s₁ v₁ .sound) (validated roster s₂ v₂ .sound) apart in
           omega (arith, positive, named-are e _ d (mask-fits roster s₁ s₂), nobody)
 
   pub fairness : Bytes s₁ → Bytes s₂ → Fairness roster s₁ s₂ (auditNumber roster s₁ s₂ report) (reportAfter roster s₁ s₂ report)
-  unfolding Fairness Fair refused maskOf bit findings slotsOf
+  unfolding Fairness Fair refused maskOf bit foundIn findings slotsOf
   fairness b₁ b₂ other k low high acts keep own apart = go (long other) (outcome roster s₁ s₂)
     where
       go : short report ≡ false → Outcome roster s₁ s₂ → signer (namedIn (reportAfter roster s₁ s₂ report)) k ≡ false
@@ -73,4 +73,5 @@ module _ (roster s₁ s₂ report : List ℕ) where
           let few = sizes roster r in
           let none-charged = rows-fair roster (s₁ ∷ s₂ ∷ []) (omega (arith, few .high)) k acts keep own apart
           s₁ s₂ (List·Memᴰ·head refl) (List·Memᴰ·tail (List·Memᴰ·head refl)) b₁ b₂ v₁ v₂ in
-          rw (named-are e _ d (mask-fits roster s₁ s₂)) (mask-clear (slotsOf roster s₁) (slotsOf roster s₂) rowCount k low (omega (arith, few .high, high)) none-charged)
+          rw (named-are e _ d (mask-fits roster s₁ s₂))
+          (mask-clear (slotUse (formOf roster) roster) (slotsOf roster s₁) (slotsOf roster s₂) rowCount k low (omega (arith, few .high, high)) none-charged)

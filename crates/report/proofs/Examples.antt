@@ -17,9 +17,9 @@ use Rattle.log_chain.specs.Runs.{runs, runsAfter}
 use Rattle.submission.specs.View.{leads, leadsOf, committed, committedBy, slots, receiptsOf}
 use Rattle.submission.specs.Reading.{view, laidOut, certificates, certificatesEnd, stampsAt, leadersFrom, stampsFrom, commitFrom, commitOf}
 use Rattle.log_chain.specs.Records.{recordSize, recordsOf}
-use Rattle.submission.specs.Validate.{sized as sizedSubmission, versioned, named, counted, commitSigners, masks, ordered, oneEach, within, formOf, viewOf, slotsOf, validate}
+use Rattle.submission.specs.Validate.{sized as sizedSubmission, versioned, named, counted, commitSigners, masks, ordered, oneEach, within, uses, formOf, viewOf, slotsOf, validate}
 use Rattle.log_chain.specs.Difference.{differAt}
-use Rattle.forensics.specs.Findings.{fork, says, charges, lowest, rowsFrom, bit, maskOf, findings}
+use Rattle.forensics.specs.Findings.{fork, says, charges, leafCharges, allCharges, lowest, rowsFrom, bit, maskOf, findings, foundIn}
 use Rattle.report.specs.Report.{refused, answer, rowBytes, reportBytes, short, auditNumber, reportAfter}
 use Rattle.report.specs.Figures.{sampleKey, sampleRoster, sampleSubmission}
 
@@ -40,8 +40,8 @@ orders : (audited three sampleSubmission sampleSubmission ≡ told 0 0) × (audi
     × (audited (sampleRoster 3 (1 ∷ 2 ∷ 1 ∷ [])) [] [] ≡ told 4 0) × (audited three (drop 1 sampleSubmission) [] ≡ told 5 1)
     × (audited three (replicate 44 0) [] ≡ told 6 1) × (audited three sampleSubmission (drop 1 sampleSubmission) ≡ told 5 2)
     × (audited three sampleSubmission (replicate 44 0) ≡ told 6 2)
-unfolding three audited told auditNumber reportAfter short answer refused reportBytes rowBytes sampleKey sampleRoster sampleSubmission findings fork committed committedBy
-    differAt rowsFrom charges says lowest maskOf bit be number numberAt same flatMap all every check refusal cluster replicas keyOf treeType oneTimeType everyReplica sized typed
+unfolding three audited told auditNumber reportAfter short answer refused reportBytes rowBytes sampleKey sampleRoster sampleSubmission foundIn findings fork committed committedBy
+    differAt rowsFrom allCharges leafCharges uses charges says lowest maskOf bit be number numberAt same flatMap all every check refusal cluster replicas keyOf treeType oneTimeType everyReplica sized typed
     single rosterNumber version1 rising name word recordCount leaderCount distance version runs runsAfter leads leadsOf slots receiptsOf view laidOut recordSize recordsOf
     certificates certificatesEnd stampsAt leadersFrom stampsFrom commitFrom commitOf sizedSubmission versioned named counted commitSigners masks ordered oneEach within formOf
     viewOf slotsOf validate signatureSize signatureLength pathAt oneTimeBytes row levels height

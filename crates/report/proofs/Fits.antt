@@ -1,27 +1,45 @@
 -- A term that was read from four bytes fits the report's four bytes. The term of a charge is that of one of its two statements; in an accepted
--- submission each statement's term was read from the bytes of a term. So a row of two accepted submissions says the very term of its charge.
+-- submission each statement's term was read from the bytes of a term. The leaf of a good signature is one of its tree's, and fits too. So a row of two
+-- accepted submissions says the very term, or the leaf's very number, of its charge.
 -- Assumes nothing.
 use mathlib.Core.Path.{_≡_, refl, sym, ap, subst}
-use mathlib.Core.Bool.{Bool, true, false, cond}
-use mathlib.Core.List.{List, [], _∷_, flatMap, List·Memᴰ, List·Memᴰ·head, List·Memᴰ·tail, List·Memᴰ·not-nil, List·Memᴰ·cases-cons, List·Memᴰ·eq-of-singleton}
+use mathlib.Core.Bool.{Bool, true, false, cond, false≢true}
+use mathlib.Core.List.{List, [], _∷_, _++_, flatMap, List·Memᴰ, List·Memᴰ·head, List·Memᴰ·tail, List·Memᴰ·not-nil, List·Memᴰ·cases-cons, List·Memᴰ·eq-of-singleton, List·Memᴰ·append-cases}
 use mathlib.Core.Logic.{⊎-elim}
 use mathlib.Core.Option.{Option, some, none}
-use Prim.Native.Nat.{ℕ, zero, suc, _^_, _<_}
+use Prim.Native.Nat.{ℕ, zero, suc, _^_, _≤_, _<_}
+use native.Mathlib.Nat.{lt-of-lt-of-le, le-trans}
+use lib.Dec.{eqb, lit≤}
+use lib.ListN.{length}
+use lib.Pow.{pow-mono}
 use Rattle.words.specs.BigEndian.{number, be, numberAt}
 use Rattle.words.proofs.Bytes.{Bytes}
 use Rattle.words.proofs.Laws.{number-be}
 use Rattle.words.proofs.Members.{joined-mem}
-use Rattle.roster.specs.Roster.{signatureSize}
+use Rattle.refusal.proofs.Laws.{cond-true, every-mem}
+use Rattle.lm_digits.specs.declared.OneTime.{OneTime}
+use Rattle.lm_digits.specs.declared.OneTime.the-variants.{Known, Unknown as NoType}
+use Rattle.lm_digits.specs.Parameters.{oneTime}
+use Rattle.lm_format.specs.declared.Height.{Height}
+use Rattle.lm_format.specs.declared.Height.the-variants.{Levels, Unknown}
+use Rattle.lm_format.specs.Format.{height, keySize}
+use Rattle.lm_format.specs.Formed.{formed}
+use Rattle.lm_format.specs.Leaf.{leafOf, leafNumber}
+use Rattle.lm_format.specs.Uses.{Use, useOf, reused}
+use Rattle.lm_format.proofs.Forms.{height-le}
+use Rattle.lm_format.proofs.Leaf.{leaf-fits}
+use Rattle.lms.specs.Check.{verifies, typed, good}
+use Rattle.roster.specs.Roster.{keyOf}
 use Rattle.log_chain.specs.Log.{Form, version1}
-use Rattle.log_chain.specs.Claim.{Claim, stamped, received, voted}
+use Rattle.log_chain.specs.Claim.{Claim, stamped, received, voted, say}
 use Rattle.log_chain.proofs.Fits.{ClaimFits}
-use Rattle.replica.specs.Charges.{Charge, charge, clash}
+use Rattle.replica.specs.Charges.{Charge, charge, clash, leafClash}
 use Rattle.submission.specs.View.{Slot}
-use Rattle.submission.specs.Validate.{formOf, viewOf, slotsOf, validate}
+use Rattle.submission.specs.Validate.{genuine, slotUse, uses, formOf, slotsOf, validate}
 use Rattle.submission.proofs.Accepted.{validated}
 use Rattle.submission.proofs.Fits.{accepted-speaks}
-use Rattle.forensics.specs.Findings.{says, charges, sooner, lower, lowest, rowsFrom, rowCount, findings}
-use Rattle.forensics.proofs.Fair.{says-slot}
+use Rattle.forensics.specs.Findings.{says, charges, leafCharges, allCharges, sooner, lower, lowest, rowsFrom, rowCount, findings, foundIn}
+use Rattle.forensics.proofs.Fair.{says-slot, uses-slot}
 use Rattle.report.specs.Report.{rowBytes}
 
 -- ---- from statements to charges
@@ -72,8 +90,10 @@ module _ (form : Form) where
   lowest-fits [] h = tt
   lowest-fits (c ∷ cs) h = lower-fits c (lowest cs) (h c (List·Memᴰ·head refl)) (lowest-fits cs (λ d m. h d (List·Memᴰ·tail m)))
 
-  -- the statements of two submissions fit their fields
-  module _ (xs ys : List Slot) (fx : (x : Slot) → List·Memᴰ x xs → ClaimFits form (x .claim)) (fy : (y : Slot) → List·Memᴰ y ys → ClaimFits form (y .claim)) where
+  -- the statements of two submissions fit their fields, and so do their leaves
+  module _ (asUse : Slot → Use) (xs ys : List Slot)
+      (fx : (x : Slot) → List·Memᴰ x xs → ClaimFits form (x .claim)) (fy : (y : Slot) → List·Memᴰ y ys → ClaimFits form (y .claim))
+      (fu : (x : Slot) → List·Memᴰ x (xs ++ ys) → leafNumber (asUse x .leaf) < 256 ^ form .termBytes) where
     charges-fit : (k : ℕ) (c : Charge) → List·Memᴰ c (charges k xs ys) → Fits c
     unfolding charges
     charges-fit k c m =
@@ -84,31 +104,66 @@ module _ (form : Form) where
         clash-fits (first .0) (second .0) (subst (ClaimFits form) (sym (x .3)) (fx (x .0) (x .1)))
         (subst (ClaimFits form) (sym (y .3)) (fy (y .0) (y .1))) c (second .2)
 
-    rows-fit : (count k : ℕ) (row : Option Charge) → List·Memᴰ row (rowsFrom count k xs ys) → RowFits row
+    leaves-fit : (k : ℕ) (c : Charge) → List·Memᴰ c (leafCharges asUse k (xs ++ ys)) → Fits c
+    unfolding leafCharges leafClash
+    leaves-fit k c m =
+        let us = uses asUse k (xs ++ ys) in
+        let first = joined-mem (λ u. flatMap (leafClash u) us) us c m in
+        let second = joined-mem (leafClash (first .0)) us c (first .2) in
+        let x = uses-slot asUse k (xs ++ ys) (first .0) (first .1) in
+        one-fits (reused (first .0) (second .0)) 5 (leafNumber (first .0 .leaf))
+        (subst (λ (u : Use). leafNumber (u .leaf) < 256 ^ form .termBytes) (sym (x .3)) (fu (x .0) (x .1))) c (second .2)
+
+    all-fit : (k : ℕ) (c : Charge) → List·Memᴰ c (allCharges asUse k xs ys) → Fits c
+    unfolding allCharges
+    all-fit k c m = ⊎-elim (λ h. charges-fit k c h) (λ h. leaves-fit k c h) (List·Memᴰ·append-cases (charges k xs ys) m)
+
+    rows-fit : (count k : ℕ) (row : Option Charge) → List·Memᴰ row (rowsFrom asUse count k xs ys) → RowFits row
     unfolding rowsFrom
     rows-fit zero k row m = absurd (List·Memᴰ·not-nil m)
     rows-fit (suc count) k row m =
         ⊎-elim
-        (λ (e : row ≡ lowest (charges k xs ys)). subst RowFits (sym e) (lowest-fits (charges k xs ys) (charges-fit k)))
+        (λ (e : row ≡ lowest (allCharges asUse k xs ys)). subst RowFits (sym e) (lowest-fits (allCharges asUse k xs ys) (all-fit k)))
         (λ h. rows-fit count (suc k) row h)
         (List·Memᴰ·cases-cons m)
+
+-- ---- the leaf of a good signature
+
+module _ (key message signature : List ℕ) where
+  typed-leaf : (o : OneTime) (t : Height) → ((h : ℕ) → t ≡ Levels h → h ≤ 25) → typed o t key message signature ≡ true
+      → leafNumber (leafOf key signature) < 256 ^ 4
+  unfolding typed verifies
+  typed-leaf NoType t high e = absurd (false≢true e)
+  typed-leaf (Known o) Unknown high e = absurd (false≢true e)
+  typed-leaf (Known o) (Levels h) high e =
+      lt-of-lt-of-le (leaf-fits o h key signature (cond-true (formed o h key signature) _ e .0)) (le-trans (pow-mono (high h refl)) (lit≤ tt))
+
+  good-leaf : good key message signature ≡ true → leafNumber (leafOf key signature) < 256 ^ 4
+  unfolding good
+  good-leaf e =
+      typed-leaf (oneTime (numberAt 4 key 4)) (height (numberAt 4 key 0)) (λ h d. height-le (numberAt 4 key 0) d) (cond-true (eqb (length key) keySize) _ e .1)
 
 -- ---- of two accepted submissions
 
 module _ (roster s₁ s₂ : List ℕ) (b₁ : Bytes s₁) (b₂ : Bytes s₂) (v₁ : validate roster s₁ ≡ 0) (v₂ : validate roster s₂ ≡ 0)
-    (c : Charge) (m : List·Memᴰ (some c) (findings (signatureSize roster) (viewOf roster s₁) (viewOf roster s₂) .rows)) where
-  -- over the bytes of a term
-  fits-width : c .term < 256 ^ formOf roster .termBytes
-  unfolding findings slotsOf
-  fits-width =
-      rows-fit (formOf roster) (slotsOf roster s₁) (slotsOf roster s₂)
-      (λ x h. accepted-speaks roster s₁ b₁ (validated roster s₁ v₁) x h .fits)
-      (λ y h. accepted-speaks roster s₂ b₂ (validated roster s₂ v₂) y h .fits) rowCount 1 (some c) m
+    (c : Charge) (m : List·Memᴰ (some c) (foundIn roster s₁ s₂ .rows)) where
+  -- check 15: each signature is good, so that its leaf's number fits
+  leaf-of : (s : List ℕ) → validate roster s ≡ 0 → (x : Slot) → List·Memᴰ x (slotsOf roster s)
+      → leafNumber (slotUse (formOf roster) roster x .leaf) < 256 ^ 4
+  unfolding genuine slotUse useOf
+  leaf-of s v x h =
+      good-leaf (keyOf roster (x .replica)) (say (formOf roster) (x .claim)) (x .signature)
+      (every-mem (genuine (formOf roster) roster) (slotsOf roster s) (validated roster s v .signatures) x h)
 
-  -- which are four
+  -- a term has four bytes too
   pub term-fits : c .term < 256 ^ 4
-  unfolding formOf version1
-  term-fits = fits-width
+  unfolding foundIn findings slotsOf formOf version1
+  term-fits =
+      rows-fit (formOf roster) (slotUse (formOf roster) roster) (slotsOf roster s₁) (slotsOf roster s₂)
+      (λ x h. accepted-speaks roster s₁ b₁ (validated roster s₁ v₁) x h .fits)
+      (λ y h. accepted-speaks roster s₂ b₂ (validated roster s₂ v₂) y h .fits)
+      (λ x h. ⊎-elim (λ i. leaf-of s₁ v₁ x i) (λ i. leaf-of s₂ v₂ x i) (List·Memᴰ·append-cases (slotsOf roster s₁) h))
+      rowCount 1 (some c) m
 
   pub term-said : number (be 4 (c .term)) ≡ c .term
   term-said = number-be 4 (c .term) term-fits

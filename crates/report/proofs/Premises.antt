@@ -1,5 +1,5 @@
 -- The premises of fairness, met all at once by one example: three replicas, two accepted submissions with empty logs, and a replica that raises its term, votes
--- twice, adds a record, stamps it and gives a receipt for it. That rules out that `Fairness` holds only because nothing meets its premises: board rules that no such acts
+-- twice with one leaf, adds a record, stamps it and gives a receipt for it. That rules out that `Fairness` holds only because nothing meets its premises: board rules that no such acts
 -- keep, strings that are never apart, or one premise against another. It does not show more: no signature stands in these submissions, so that
 -- `OwnSignatures` asks nothing here, and no replica is named.
 -- Assumes nothing.
@@ -18,13 +18,15 @@ use Rattle.refusal.specs.Checks.{all, every, check, refusal}
 use Rattle.refusal.proofs.Laws.{cond-true, every-mem}
 use Rattle.lm_digits.specs.Parameters.{row}
 use Rattle.lm_format.specs.Format.{height, signatureLength, pathAt, oneTimeBytes}
+use Rattle.lm_format.specs.Leaf.{sameLeaf}
+use Rattle.lm_format.specs.Uses.{useOf, reused}
 use Rattle.roster.specs.Roster.{cluster, replicas, keyOf, treeType, oneTimeType, levels, signatureSize, everyReplica, sized, typed, single, rosterNumber}
 use Rattle.roster.specs.Masks.{signer}
 use Rattle.log_chain.specs.Log.{version1, Record, chainString, chainFrom, chainStrings, termFrom, lastTerm}
-use Rattle.log_chain.specs.Claim.{Ballot}
+use Rattle.log_chain.specs.Claim.{Ballot, ballotBytes, say}
 use Rattle.log_chain.specs.Apart.{Apart}
 use Rattle.log_chain.specs.Ends.{rising, staler}
-use Rattle.replica.specs.Replica.{Act, raise, vote, run, add, stamp, receipt, decline, restart, first, fitsTerm, fitsIndex, fitsRecords, sameRequest, oneRequest, noStamp, noStaler, rules, allowed, after, keeps, held}
+use Rattle.replica.specs.Replica.{signing, Act, raise, vote, run, add, stamp, receipt, decline, restart, first, fitsTerm, fitsIndex, fitsRecords, sameRequest, oneRequest, noStamp, noStaler, rules, signs, useIn, oneMessage, leafRule, allowed, moved, after, keeps, held}
 use Rattle.submission.specs.Trailer.{name, word, recordCount, leaderCount, distance, version}
 use Rattle.log_chain.specs.Runs.{runs, runsAfter}
 use Rattle.submission.specs.View.{leads, leadsOf, slots, receiptsOf}
@@ -48,7 +50,8 @@ ballot : Ballot
 ballot = record { candidate = 3; term = 1; lastTerm = 0; lastIndex = 0; lastPointer = replicate 32 0 }
 
 pub acts : List Act
-acts = raise 1 ∷ vote ballot ∷ vote ballot ∷ add one ∷ run 0 (one ∷ []) ∷ stamp ∷ stamp ∷ receipt 1 ∷ decline ∷ restart ∷ []
+acts =
+    raise 1 ∷ vote 0 ballot ∷ vote 0 ballot ∷ add one ∷ run 0 (one ∷ []) ∷ stamp 1 ∷ stamp 2 ∷ receipt 3 1 ∷ decline ∷ restart ∷ []
 
 unfoldable pub both : List (List ℕ)
 both = sampleSubmission ∷ sampleSubmission ∷ []
@@ -58,7 +61,7 @@ buffer = replicate 53 0
 
 -- the acts keep the rules
 pub kept : keeps (formOf three) (replicas three) first acts ≡ true
-unfolding three one ballot acts sampleRoster sampleKey be flatMap cluster replicas numberAt number formOf version1 first keeps allowed all rules after fitsTerm fitsIndex fitsRecords sameRequest oneRequest same noStamp noStaler rising staler
+unfolding three one ballot acts sampleRoster sampleKey be flatMap cluster replicas numberAt number formOf version1 first keeps allowed all every rules signs signing useIn useOf reused sameLeaf say ballotBytes oneMessage leafRule moved after fitsTerm fitsIndex fitsRecords sameRequest oneRequest same noStamp noStaler rising staler
     lastTerm termFrom
 kept = refl
 
@@ -76,7 +79,7 @@ string = chainString (formOf three) 1 one (replicate 32 0)
 one-string : every (λ x. same x string) (strings three both acts) ≡ true
 unfolding every same string strings stringsIn both three one ballot acts sampleRoster sampleKey sampleSubmission be number numberAt flatMap cluster keyOf treeType levels signatureSize signatureLength
     pathAt oneTimeBytes row height word recordCount leaderCount distance view recordSize recordsOf certificates certificatesEnd stampsAt leadersFrom stampsFrom commitFrom commitOf
-    formOf version1 viewOf first held after chainStrings chainFrom chainString
+    formOf version1 viewOf first held moved after chainStrings chainFrom chainString
 one-string = refl
 
 alike : (x : List ℕ) → List·Memᴰ x (strings three both acts) → x ≡ string

@@ -2,19 +2,21 @@
 -- Assumes nothing.
 use mathlib.Core.Path.{_≡_, refl, sym, subst, _∙_}
 use mathlib.Core.Bool.{true, false, true≢false}
-use mathlib.Core.List.{List, [], _∷_, _++_, flatMap, append-nil, List·Memᴰ, List·Memᴰ·head}
-use mathlib.Core.Logic.{⊎-elim}
+use mathlib.Core.List.{List, [], _∷_, _++_, flatMap, append-nil, List·Memᴰ, List·Memᴰ·head, List·Memᴰ·tail}
+use mathlib.Core.Logic.{_⊎_, ⊎-elim}
 use Prim.Native.Nat.{ℕ, suc, _≤_, _<_}
 use borrow.Author.Tests.{eq-eqb}
 use Rattle.words.proofs.Same.{true-same}
 use Rattle.refusal.proofs.Laws.{look}
+use Rattle.lm_format.specs.Leaf.{Leaf, leafOf}
+use Rattle.lm_format.specs.Uses.{useOf}
 use Rattle.lms.specs.Check.{good}
 use Rattle.roster.specs.Roster.{replicas, keyOf}
 use Rattle.roster.specs.Masks.{signer}
 use Rattle.log_chain.specs.Log.{Record, chainStrings, chainFrom}
 use Rattle.log_chain.specs.Claim.{Ballot, voted, say}
 use Rattle.log_chain.specs.Apart.{Apart}
-use Rattle.replica.specs.Replica.{raise, vote, first, after, signs, keeps, signed, held}
+use Rattle.replica.specs.Replica.{signing, raise, vote, first, moved, after, signs, useIn, keeps, signed, held}
 use Rattle.log_chain.specs.Difference.{sameRecord}
 use Rattle.submission.specs.View.{Slot}
 use Rattle.submission.specs.Validate.{formOf, viewOf, slotsOf}
@@ -60,13 +62,29 @@ module _ (roster s₁ s₂ : List ℕ) (number : ℕ) (report : List ℕ) where
   silent claim other k low high bad apart =
       claim other k low high [] refl (λ x m g. absurd (bad x (rw (append-nil (slotsOf roster s₂)) at m) g)) (rw append-nil apart)
 
-  -- and one that has raised its term and cast one vote, if each good signature under its key stands on that vote's bytes
+  -- and one that has raised its term and cast one vote, if each good signature under its key has that vote's leaf and stands on its bytes
   voter : Fairness roster s₁ s₂ number report → (number ≡ 1 → ⊥) → (k : ℕ) → 0 < k → k ≤ replicas roster
-      → (b : Ballot) → keeps (formOf roster) (replicas roster) first (raise 0 ∷ vote b ∷ []) ≡ true
+      → (q : Leaf) (b : Ballot) → keeps (formOf roster) (replicas roster) first (raise 0 ∷ vote q b ∷ []) ≡ true
       → ((x : Slot) → List·Memᴰ x (slotsOf roster s₁ ++ slotsOf roster s₂) → good (keyOf roster k) (say (formOf roster) (x .claim)) (x .signature) ≡ true
-      → say (formOf roster) (x .claim) ≡ say (formOf roster) (voted b))
+      → (leafOf (keyOf roster k) (x .signature) ≡ q) × (say (formOf roster) (x .claim) ≡ say (formOf roster) (voted b)))
       → (let C = chainStrings (formOf roster) (viewOf roster s₁ .log) ++ chainStrings (formOf roster) (viewOf roster s₂ .log) in Apart C C)
       → signer (namedIn report) k ≡ false
-  unfolding Fairness Fair OwnSignatures strings stringsIn signed signs after held first chainStrings chainFrom flatMap
-  voter claim other k low high b keep own apart =
-      claim other k low high (raise 0 ∷ vote b ∷ []) keep (λ x m g. List·Memᴰ·head (own x (rw (append-nil (slotsOf roster s₂)) at m) g)) (rw append-nil apart)
+  unfolding Fairness Fair OwnSignatures strings stringsIn signed signs signing useIn moved after held first chainStrings chainFrom flatMap
+  voter claim other k low high q b keep own apart =
+      claim other k low high (raise 0 ∷ vote q b ∷ []) keep
+      (λ x m g. let e = own x (rw (append-nil (slotsOf roster s₂)) at m) g in List·Memᴰ·head (λ i. useOf (e .0 i) (e .1 i))) (rw append-nil apart)
+
+  -- and one that has cast it twice, with two leaves, if each has one of the two: no leaf is used twice
+  voter-again : Fairness roster s₁ s₂ number report → (number ≡ 1 → ⊥) → (k : ℕ) → 0 < k → k ≤ replicas roster
+      → (p q : Leaf) (b : Ballot) → keeps (formOf roster) (replicas roster) first (vote p b ∷ vote q b ∷ []) ≡ true
+      → ((x : Slot) → List·Memᴰ x (slotsOf roster s₁ ++ slotsOf roster s₂) → good (keyOf roster k) (say (formOf roster) (x .claim)) (x .signature) ≡ true
+      → ((leafOf (keyOf roster k) (x .signature) ≡ p) ⊎ (leafOf (keyOf roster k) (x .signature) ≡ q))
+      × (say (formOf roster) (x .claim) ≡ say (formOf roster) (voted b)))
+      → (let C = chainStrings (formOf roster) (viewOf roster s₁ .log) ++ chainStrings (formOf roster) (viewOf roster s₂ .log) in Apart C C)
+      → signer (namedIn report) k ≡ false
+  unfolding Fairness Fair OwnSignatures strings stringsIn signed signs signing useIn moved after held first chainStrings chainFrom flatMap
+  voter-again claim other k low high p q b keep own apart =
+      claim other k low high (vote p b ∷ vote q b ∷ []) keep
+      (λ x m g. let e = own x (rw (append-nil (slotsOf roster s₂)) at m) g in
+      ⊎-elim (λ h. List·Memᴰ·head (λ i. useOf (h i) (e .1 i))) (λ h. List·Memᴰ·tail (List·Memᴰ·head (λ i. useOf (h i) (e .1 i)))) (e .0))
+      (rw append-nil apart)

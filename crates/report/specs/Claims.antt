@@ -5,13 +5,15 @@ use mathlib.Core.List.{List, [], _∷_, _++_, map, flatMap, List·Memᴰ}
 use mathlib.Core.Option.{some}
 use Prim.Native.Nat.{ℕ, _≤_, _<_}
 use lib.ListN.{getElem?}
+use Rattle.lm_format.specs.Leaf.{leafOf}
+use Rattle.lm_format.specs.Uses.{useOf}
 use Rattle.lms.specs.Check.{good}
 use Rattle.roster.specs.Roster.{replicas, keyOf}
 use Rattle.roster.specs.Masks.{signer}
 use Rattle.log_chain.specs.Log.{Record, chainStrings}
 use Rattle.log_chain.specs.Claim.{say}
 use Rattle.log_chain.specs.Apart.{Apart}
-use Rattle.replica.specs.Replica.{Act, first, keeps, signed, held}
+use Rattle.replica.specs.Replica.{Act, first, keeps, signed, held, useIn}
 use Rattle.submission.specs.View.{Slot, committed}
 use Rattle.submission.specs.Validate.{formOf, viewOf, slotsOf}
 use Rattle.report.specs.Report.{namedIn}
@@ -39,12 +41,13 @@ module _ (roster s₁ s₂ : List ℕ) where
 
 module _ (roster : List ℕ) where
   -- each signature in some submissions that is good under the replica's key stands on a statement signed in
-  -- the list
+  -- the list, with that very leaf (document 02, W5)
   unfoldable pub OwnSignatures : List (List ℕ) → ℕ → List Act → Type 0
   OwnSignatures submissions k acts =
       (x : Slot) → List·Memᴰ x (flatMap (slotsOf roster) submissions)
       → good (keyOf roster k) (say (formOf roster) (x .claim)) (x .signature) ≡ true
-      → List·Memᴰ (say (formOf roster) (x .claim)) (map (say (formOf roster)) (signed first acts))
+      → List·Memᴰ (useOf (leafOf (keyOf roster k) (x .signature)) (say (formOf roster) (x .claim)))
+      (map (useIn (formOf roster)) (signed first acts))
 
   -- the chain strings of a submission's log
   unfoldable pub stringsIn : List ℕ → List (List ℕ)

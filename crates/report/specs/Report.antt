@@ -7,10 +7,10 @@ use Prim.Native.Nat.{ℕ}
 use lib.Dec.{eqb, ltb}
 use lib.ListN.{length, drop, replicate}
 use Rattle.words.specs.BigEndian.{be, numberAt}
-use Rattle.roster.specs.Roster.{rosterNumber, signatureSize}
+use Rattle.roster.specs.Roster.{rosterNumber}
 use Rattle.replica.specs.Charges.{Charge}
-use Rattle.submission.specs.Validate.{validate, viewOf}
-use Rattle.forensics.specs.Findings.{Findings, findings, rowCount, maskOf}
+use Rattle.submission.specs.Validate.{validate}
+use Rattle.forensics.specs.Findings.{Findings, foundIn, rowCount, maskOf}
 
 -- ---- the answer
 
@@ -36,7 +36,7 @@ answer roster first second =
     (record {
       number = 0;
       place = 0;
-      findings = findings (signatureSize roster) (viewOf roster first) (viewOf roster second);
+      findings = foundIn roster first second;
     })
     (refused b 2))
     (refused a 1))
