@@ -359,5 +359,5 @@ pub never-charged : (form : Form) (n : ℕ) → NeverCharged form n
 unfolding NeverCharged leafClash useIn useOf first lastTerm termFrom rising
 never-charged form n acts e x y m k = (
   honest form n acts first (record { below = le-refl 0; rises = refl }) e x y m k .0,
-  no-charge _ 5 _ (not-reused (useIn form x) (useIn form y) (leaves form n acts first e x y m k)),
+  no-charge _ _ _ (not-reused (useIn form x) (useIn form y) (leaves form n acts first e x y m k)),
 )
