@@ -37,7 +37,7 @@ second-holds a {b} e = go a
 
 -- ---- the votes
 
-votes-leads : (S : ℕ) (cs : List Certificate) (rs : List Run) (gs : List (List ℕ)) → length rs ≡ length cs → length gs ≡ length cs
+pub votes-leads : (S : ℕ) (cs : List Certificate) (rs : List Run) (gs : List (List ℕ)) → length rs ≡ length cs → length gs ≡ length cs
     → flatMap (votesOf S) (leadsOf cs rs gs) ≡ flatMap (ballots S) cs
 unfolding leadsOf flatMap votesOf ballots
 votes-leads S [] rs gs e d = refl

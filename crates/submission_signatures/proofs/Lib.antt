@@ -3,4 +3,4 @@ pub mod Facts
 pub mod Fifteen
 pub mod Said
 pub mod Turns
-mod StampsLeft
+pub mod StampsLeft

@@ -42,7 +42,7 @@ field-bytes w s at b h =
 joined : (n m : ℕ) (s : List ℕ) (at : ℕ) → take n (drop at s) ++ take m (drop (at + n) s) ≡ take (n + m) (drop at s)
 joined n m s at = rw (take-add, drop-drop)
 
-vote-said : (roster s : List ℕ) (w at : ℕ) → Bytes s → at + ballotSize w ≤ length s
+pub vote-said : (roster s : List ℕ) (w at : ℕ) → Bytes s → at + ballotSize w ≤ length s
     → 3 ∷ cluster roster ++ take (ballotSize w) (drop at s) ≡ say (withTerms w (cluster roster)) (voted (ballotAt w s at))
 unfolding say ballotBytes ballotAt ballotSize
 vote-said roster s w at b h =
