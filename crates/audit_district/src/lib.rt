@@ -33,9 +33,9 @@ fn judge(roster: &[u8], buffer: &[u8], lengths: &[u32], report: &mut [u8]) -> En
     while i < lengths.len() {
         let size = lengths[i] as usize;
         let end = at + size;
-        let number = submission_checks::validate_submission(roster, &buffer[at..end]).number;
-        words::put_u8(report, i, number);
-        entries = district_pairs::with_judged(entries, number, i, at, size);
+        let validated = submission_checks::validate_submission(roster, &buffer[at..end]);
+        words::put_u8(report, i, validated.number);
+        entries = district_pairs::with_judged(entries, validated, i, at, size);
         at = end;
         i += 1;
     }

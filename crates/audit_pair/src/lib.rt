@@ -4,11 +4,11 @@ ghost use mathlib.Core.Path.{_≡_};
 ghost use mathlib.Core.List.{_++_};
 ghost use Prim.Native.Nat.{_≤_};
 ghost use lib.ListN.{length, drop};
-ghost use Rattle.roster.specs.Roster.{signatureSize};
-ghost use Rattle.submission.specs.Validate.{viewOf};
-ghost use Rattle.forensics.specs.Findings.{findings};
+ghost use Rattle.forensics.specs.Findings.{foundIn};
 ghost use Rattle.report.specs.Report.{reportSize, reportBytes, auditNumber, reportAfter};
+ghost use Rattle.audit_pair.specs.declared.Outcome.the-variants.{Refused};
 ghost use Rattle.audit_pair.specs.Outcomes as inner;
+use log_terms::LogPointers;
 
 // Whether roster and submissions are accepted; if not, the number and where: 0 for the roster, 1 or 2 for the
 // submission.
@@ -17,23 +17,51 @@ pub enum Outcome {
     Refused(u32, u32),
 }
 
+// What validating gives: the outcome, and the pointers of both submissions where they are accepted.
+pub struct Validation {
+    pub outcome: Outcome,
+    pub first: LogPointers,
+    pub second: LogPointers,
+}
+
+// A refusal with this number and place, and pointer 0 for all.
+fn refused(number: u32, place: u32) -> Validation
+    ensures { λ r. ⌜ r .outcome ≡ Refused number place ⌝ }
+{
+    let zero = log_terms::pointers::pointers_zero();
+    Validation {
+        outcome: Outcome::Refused(number, place),
+        first: zero,
+        second: zero,
+    }
+}
+
 // The roster first, then the first submission, then the second.
-pub fn validate(roster: &[u8], first: &[u8], second: &[u8]) -> Outcome
-    ensures { λ r. ⌜ r ≡ inner.outcome (now (roster .entry)) (now (first .entry)) (now (second .entry)) ⌝ }
+pub fn validate(roster: &[u8], first: &[u8], second: &[u8]) -> Validation
+    ensures outcome { λ r. ⌜ r .outcome
+        ≡ inner.outcome (now (roster .entry)) (now (first .entry)) (now (second .entry)) ⌝ }
+    ensures pointers { λ r. ⌜ inner.PointersHanded (now (roster .entry)) (now (first .entry))
+        (now (second .entry)) r ⌝ }
 {
     let number = roster_checks::validate(roster);
     if number != 0 {
-        return Outcome::Refused(number, 0);
+        return refused(number, 0);
     }
-    let number_1 = submission_checks::validate_submission(roster, first).number;
-    if number_1 != 0 {
-        return Outcome::Refused(number_1, 1);
+    let one = submission_checks::validate_submission(roster, first);
+    if one.number != 0 {
+        return refused(one.number, 1);
     }
-    let number_2 = submission_checks::validate_submission(roster, second).number;
-    if number_2 != 0 {
-        return Outcome::Refused(number_2, 2);
+    let two = submission_checks::validate_submission(roster, second);
+    if two.number != 0 {
+        return refused(two.number, 2);
     }
-    Outcome::Accepted
+    let of_first = one.pointers;
+    let of_second = two.pointers;
+    Validation {
+        outcome: Outcome::Accepted,
+        first: of_first,
+        second: of_second,
+    }
 }
 
 // Writes the report of the outcome to a buffer that is long enough, and gives the number.
@@ -41,17 +69,22 @@ fn write(roster: &[u8], first: &[u8], second: &[u8], report: &mut [u8]) -> u32
     requires { ⌜ reportSize ≤ length (now report) ⌝ }
     ensures number { λ r. ⌜ r
         ≡ inner.answerOf (inner.outcome (now (roster .entry)) (now (first .entry)) (now (second .entry)))
-        (findings (signatureSize (now (roster .entry))) (viewOf (now (roster .entry)) (now (first .entry)))
-        (viewOf (now (roster .entry)) (now (second .entry)))) .number ⌝ }
+        (foundIn (now (roster .entry)) (now (first .entry)) (now (second .entry))) .number ⌝ }
     ensures bytes { λ _. ⌜ now (report .exit)
         ≡ reportBytes (inner.answerOf (inner.outcome (now (roster .entry)) (now (first .entry))
-        (now (second .entry)))
-        (findings (signatureSize (now (roster .entry))) (viewOf (now (roster .entry)) (now (first .entry)))
-        (viewOf (now (roster .entry)) (now (second .entry)))))
+        (now (second .entry))) (foundIn (now (roster .entry)) (now (first .entry)) (now (second .entry))))
         ++ drop reportSize (now (report .entry)) ⌝ }
 {
-    let Outcome::Refused(number, place) = validate(roster, first, second) else {
-        let found = forensics_find::find(roster, first, second);
+    let validation = validate(roster, first, second);
+    let outcome = validation.outcome;
+    let Outcome::Refused(number, place) = outcome else {
+        let found = forensics_find::find(
+            roster,
+            first,
+            second,
+            validation.first,
+            validation.second,
+        );
         return report_bytes::write_accepted(report, found);
     };
     report_bytes::write_refused(report, number, place)

@@ -1,4 +1,5 @@
--- The accepted submissions as the code holds them: where each stands in the buffer, and its position.
+-- The accepted submissions as the code holds them: where each stands in the buffer, its position, and its
+-- pointers.
 use mathlib.Core.Path.{_≡_}
 use mathlib.Core.Bool.{cond}
 use mathlib.Core.List.{List, [], _∷_, map, List·Memᴰ}
@@ -7,7 +8,10 @@ use lib.Bits.{bitOr}
 use lib.Dec.{eqb}
 use lib.ListN.{length, take, drop}
 use Rattle.roster.specs.Roster.{rosterNumber}
-use Rattle.submission.specs.Validate.{validate}
+use Rattle.log_terms.specs.Pointed.{PointersOf}
+use Rattle.submission.specs.View.{committed}
+use Rattle.submission.specs.Validate.{formOf, viewOf, validate}
+use Rattle.submission_checks.specs.declared.Validated.{Validated}
 use Rattle.forensics.specs.Findings.{Findings, maskOf}
 use Rattle.district_parts.specs.Parts.{countMost}
 use Rattle.district.specs.declared.Fork.{Fork}
@@ -28,15 +32,19 @@ unfoldable pub entriesOf : List ℕ → Entries → List Entry
 entriesOf buffer e = map (entryOf buffer) (partsOf e)
 
 -- the submission of index i, from 0, if it is accepted
-unfoldable pub judged : ℕ → ℕ → ℕ → ℕ → List Part
-judged number i start size =
-    let part : Part = record { position = suc i; start = start; size = size } in
-    cond (eqb number 0) (part ∷ []) []
+unfoldable pub judged : Validated → ℕ → ℕ → ℕ → List Part
+judged validated i start size =
+    let part : Part =
+    record { position = suc i; start = start; size = size; pointers = validated .pointers } in
+    cond (eqb (validated .number) 0) (part ∷ []) []
 
--- a submission inside the buffer that the roster accepts
+-- a submission inside the buffer that the roster accepts, with its pointers
 pub record Fit (roster buffer : List ℕ) (p : Part) : Type 0 where
   pub inside : p .start + p .size ≤ length buffer
   pub valid : validate roster (entryOf buffer p .bytes) ≡ 0
+  pub pointed :
+      let v = viewOf roster (entryOf buffer p .bytes) in
+      PointersOf (formOf roster) (committed v) (v .log) (p .pointers)
 
 -- nine places, of which no more than so many are taken
 pub record Room (most : ℕ) (e : Entries) : Type 0 where

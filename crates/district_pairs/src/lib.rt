@@ -13,12 +13,16 @@ use district::Fork;
 use district::Shown;
 use district_parts::COUNT_MOST;
 use forensics_charges::Findings;
+use log_terms::LogPointers;
+use submission_checks::Validated;
 
-// A submission of the buffer: its position among all, from 1, and where it stands.
+// A submission of the buffer: its position among all, from 1, where it stands, and the pointers of its
+// committed records and of its log.
 pub struct Part {
     pub position: u32,
     pub start: usize,
     pub size: usize,
+    pub pointers: LogPointers,
 }
 
 // The submissions that are accepted, in their order.
@@ -32,31 +36,41 @@ pub fn no_entries() -> Entries
     ensures parts { λ r. ⌜ inner.partsOf r ≡ [] ⌝ }
     ensures room { λ r. ⌜ inner.Room 0 r ⌝ }
 {
+    let zero = log_terms::pointers::pointers_zero();
     Entries {
         count: 0,
         parts: [Part {
             position: 0,
             start: 0,
             size: 0,
+            pointers: zero,
         }; COUNT_MOST],
     }
 }
 
 // The submissions with the next one, of index i from 0, if its number is 0.
-pub fn with_judged(entries: Entries, number: u32, i: usize, start: usize, size: usize) -> Entries
+pub fn with_judged(
+    entries: Entries,
+    validated: Validated,
+    i: usize,
+    start: usize,
+    size: usize,
+) -> Entries
     requires { ⌜ inner.Room i entries × (i < countMost) ⌝ }
-    ensures parts { λ r. ⌜ inner.partsOf r ≡ inner.partsOf entries ++ inner.judged number i start size ⌝ }
+    ensures parts { λ r. ⌜ inner.partsOf r ≡ inner.partsOf entries ++ inner.judged validated i start size ⌝ }
     ensures room { λ r. ⌜ inner.Room (suc i) r ⌝ }
 {
-    if number != 0 {
+    if validated.number != 0 {
         return entries;
     }
+    let pointers = validated.pointers;
     let count = entries.count;
     let mut parts = entries.parts;
     parts[count] = Part {
         position: (i + 1) as u32,
         start,
         size,
+        pointers,
     };
     Entries {
         count: count + 1,
@@ -76,7 +90,13 @@ fn audit_parts(roster: &[u8], buffer: &[u8], a: Part, b: Part) -> Findings
     let a_end = a_start + a.size;
     let b_start = b.start;
     let b_end = b_start + b.size;
-    forensics_find::find(roster, &buffer[a_start..a_end], &buffer[b_start..b_end])
+    forensics_find::find(
+        roster,
+        &buffer[a_start..a_end],
+        &buffer[b_start..b_end],
+        a.pointers,
+        b.pointers,
+    )
 }
 
 // The fork that stays: that of a pair, or where it has none that of the later ones.

@@ -9,7 +9,8 @@ use lib.ListN.{length, take, drop, getD}
 use lib.Seq.{take-all, sets, length-sets}
 use Rattle.words.specs.BigEndian.{be}
 use Rattle.words.specs.Over.{over}
-use Rattle.submission.specs.Validate.{validate}
+use Rattle.submission.specs.Validate.{formOf, viewOf, validate}
+use Rattle.submission_checks.specs.Pointers.{PointersHanded}
 use Rattle.district_parts.specs.Parts.{parts, total, countMost}
 use Rattle.district_parts.proofs.Parts.{parts-length, sum-next, counted-most}
 use Rattle.district.specs.District.{acceptedFrom, accepted, numberBytes}
@@ -101,20 +102,23 @@ loop-again c =
     let size = getD L (l .i) 0 in
     let inside : l .i < length L = search needs in
     let next : l .i + 1 ≡ suc (l .i) = omega arith in
-    let number : judged .validate-submission .result .number ≡ validate R (this R B L (l .i) inside) =
+    let validated = judged .validate-submission .result in
+    let number : validated .number ≡ validate R (this R B L (l .i) inside) =
     judged .validate-submission .ensures .0 ∙ ap (validate R) (part-from B (l .at) size ∙ ap (λ (k : ℕ). take size (drop k B)) (l .inv .1)) in
+    let handed : PointersHanded (formOf R) (viewOf R (take size (drop (l .at) B))) validated =
+    rw (← part-from B (l .at) size) (judged .validate-submission .ensures .1) in
     let put = c .before .before .before .put-u8 in
     let bytes : put .last .0 ≡ over (numberBytes R (take (suc (l .i)) (parts L B))) (a .report .now) =
     put .ensures ∙ (λ k. sets (l .inv .3 k) (l .i) (be 1 (number k))) ∙ number-put R B L (l .i) inside (a .report .now) (start .pre .3) in (
       omega arith,
       ap (λ (k : ℕ). k + size) (l .inv .1) ∙ sym (sum-next L (l .i) inside) ∙ ap (λ (k : ℕ). total (take k L)) (sym next),
-      ap length (put .ensures) ∙ length-sets (l .report) (l .i) (be 1 (judged .validate-submission .result .number)) ∙ l .inv .2,
+      ap length (put .ensures) ∙ length-sets (l .report) (l .i) (be 1 (validated .number)) ∙ l .inv .2,
       bytes ∙ ap (λ (k : ℕ). over (numberBytes R (take k (parts L B))) (a .report .now)) (sym next),
-      entries-next R B L (l .i) inside (l .entries) (c .with-judged .result) (judged .validate-submission .result .number) (l .at) size (l .inv .1) refl number
+      entries-next R B L (l .i) inside (l .entries) (c .with-judged .result) validated (l .at) size (l .inv .1) refl number
           (c .with-judged .ensures .0) (l .inv .4)
           ∙ ap (λ (k : ℕ). acceptedFrom R 1 (take k (parts L B))) (sym next),
       rw next (c .with-judged .ensures .1),
-      fits-next R B L (l .i) inside (start .pre .2) (l .entries) (c .with-judged .result) (judged .validate-submission .result .number) (l .at) size (l .inv .1) refl number
+      fits-next R B L (l .i) inside (start .pre .2) (l .entries) (c .with-judged .result) validated (l .at) size (l .inv .1) refl number handed
           (c .with-judged .ensures .0) (l .inv .6),
     )
 

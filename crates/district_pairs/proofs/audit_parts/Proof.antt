@@ -1,4 +1,4 @@
--- Both stand inside the buffer, and are accepted.
+-- Both stand inside the buffer, and are accepted, with their pointers.
 -- Assumes nothing.
 use mathlib.Core.Path.{ap, _∙_}
 use borrow.Author.Needs.{needs}
@@ -18,6 +18,8 @@ find-requires c κs =
       start .pre .0,
       ap (validate (a .roster .now)) (part-from b (a .a .start) (a .a .size)) ∙ start .pre .1 .valid,
       ap (validate (a .roster .now)) (part-from b (a .b .start) (a .b .size)) ∙ start .pre .2 .valid,
+      rw (part-from b (a .a .start) (a .a .size)) (start .pre .1 .pointed),
+      rw (part-from b (a .b .start) (a .b .size)) (start .pre .2 .pointed),
     )
 
 returns : tie.Need-returns
