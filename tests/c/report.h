@@ -3,6 +3,7 @@
 #define REPORT_H
 
 #include "big_endian.h"
+#include "hirelog.h"
 
 enum { REPLICAS_MOST = 9 };
 
@@ -29,10 +30,19 @@ static inline unsigned report_rule(const uint8_t *report, unsigned replica)
     return report[ROWS_AT + ROW_SIZE * (replica - 1)];
 }
 
-/* The term for that rule. */
+/* The term for that rule; for that on leaves (document 02, W5) a leaf number. */
 static inline uint32_t report_term(const uint8_t *report, unsigned replica)
 {
     return read_u32(report + ROWS_AT + ROW_SIZE * (replica - 1) + ROW_TERM_AT);
+}
+
+/* Whether a replica broke another rule than that on leaves, which one submission alone can show. */
+static inline int report_breaks_more_than_leaves(const uint8_t *report)
+{
+    for (unsigned k = 1; k <= REPLICAS_MOST; k++)
+        if (report_rule(report, k) != 0 && report_rule(report, k) != HIRELOG_RULE_ONE_LEAF)
+            return 1;
+    return 0;
 }
 
 #endif

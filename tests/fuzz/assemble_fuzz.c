@@ -208,13 +208,16 @@ static void note(uint32_t number, const uint8_t *written, size_t length, size_t 
     }
 }
 
-/* The auditor accepts what is written beside itself, finds no fork and names nobody. */
+/*
+ * The auditor accepts what is written beside itself, and finds no fork, and no rule broken but that
+ * on leaves.
+ */
 static void check_accepted(const struct input *input, const uint8_t *written, size_t length)
 {
     uint8_t report[HIRELOG_REPORT_SIZE];
     if (auditor_audit(input->parts[ROSTER], input->lens[ROSTER], written, length, written, length,
                       report, sizeof report) != HIRELOG_OK ||
-        report_fork(report) != 0 || report_named(report) != 0)
+        report_fork(report) != 0 || report_breaks_more_than_leaves(report))
         fail("the auditor does not accept what is written");
     if (length < input->lens[LOG] || memcmp(written, input->parts[LOG], input->lens[LOG]) != 0)
         fail("what is written does not begin with the log");

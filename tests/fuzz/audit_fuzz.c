@@ -11,8 +11,9 @@
  * what leads the fuzzer on is the auditor's branches, and what the audit says: its number and
  * place, and each replica's rule. Of a report these rules of document 01 are checked by themselves
  * besides: the bytes around it stay, a refusal has nothing but number and place, a fork names
- * somebody, a submission audited beside itself names nobody, and exchanging the submissions keeps
- * the fork and the replicas named.
+ * somebody, a submission audited beside itself breaks no rule but that on leaves (document 02, W5),
+ * whoever breaks it there is named beside any other, and exchanging the submissions keeps the fork
+ * and the replicas named.
  */
 #define _GNU_SOURCE
 #include "hirelog.h"
@@ -22,8 +23,8 @@
 enum { ROSTER, FIRST, SECOND };
 enum { HEAD = 8, REPORT_ROOM = 256 };
 
-/* Document 01's numbers: places of a refusal, rules, records of a log, where a roster has n. */
-enum { PLACES = 3, RULES = 4, RECORDS_MOST = 4096, REPLICAS_AT = 16 };
+/* Places of a refusal, rules, records of a log, where a roster has n. */
+enum { PLACES = 3, RULES = HIRELOG_RULE_ONE_LEAF, RECORDS_MOST = 4096, REPLICAS_AT = 16 };
 
 /*
  * What libFuzzer counts as new beside the branches: each number in each place, then each
@@ -140,7 +141,9 @@ static void check_rows(const uint8_t *report, unsigned replicas)
         fail("a replica named that the roster does not have");
     for (unsigned k = 1; k <= REPLICAS_MOST; k++) {
         uint32_t rule = report_rule(report, k), term = report_term(report, k);
-        if (named >> (k - 1) & 1 ? rule < 1 || rule > RULES || term == 0 : rule != 0 || term != 0)
+        int leaf = rule == HIRELOG_RULE_ONE_LEAF; /* which may have number 0 */
+        if (named >> (k - 1) & 1 ? rule < 1 || rule > RULES || (term == 0 && !leaf)
+                                 : rule != 0 || term != 0)
             fail("a row that does not go with the replicas named");
         if (rule <= RULES)
             seen[SEEN_RULES + (RULES + 1) * (k - 1) + rule] = 1;
@@ -172,14 +175,16 @@ static void check_report(const struct input *input, uint32_t number, const uint8
 /* Of accepted submissions: each beside itself, and the two exchanged. */
 static void check_again(const struct input *input, const uint8_t *report)
 {
-    static const uint8_t nobody[HIRELOG_REPORT_SIZE];
     uint8_t again[REPORT_ROOM];
     struct input other = *input;
     for (int i = FIRST; i <= SECOND; i++) {
         other.parts[FIRST] = other.parts[SECOND] = input->parts[i];
         other.lens[FIRST] = other.lens[SECOND] = input->lens[i];
-        if (call(&other, again) != HIRELOG_OK || memcmp(again, nobody, sizeof nobody) != 0)
-            fail("an accepted submission beside itself is refused, or names somebody");
+        if (call(&other, again) != HIRELOG_OK || report_fork(again) != 0 ||
+            report_breaks_more_than_leaves(again))
+            fail("an accepted submission beside itself is refused, forks, or breaks a rule");
+        if (report_named(again) & ~report_named(report))
+            fail("a leaf used twice in one submission, and not charged beside the other");
     }
     other.parts[FIRST] = input->parts[SECOND], other.lens[FIRST] = input->lens[SECOND];
     other.parts[SECOND] = input->parts[FIRST], other.lens[SECOND] = input->lens[FIRST];

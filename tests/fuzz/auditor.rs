@@ -6,7 +6,7 @@
 
 use auditor::assemble::assemble;
 use auditor::audit::audit;
-use auditor::lms::{candidate, check, Verdict};
+use auditor::lms::{candidate, check};
 use auditor::verdicts::Verdicts;
 use std::cell::RefCell;
 use std::slice::{from_raw_parts, from_raw_parts_mut};
@@ -84,6 +84,13 @@ pub unsafe extern "C" fn auditor_assemble(
     number
 }
 
+/// struct hirelog_lms_answer.
+#[repr(C)]
+pub struct LmsAnswer {
+    number: u32,
+    leaf: u32,
+}
+
 /// What hirelog_lms_check has to return.
 ///
 /// # Safety
@@ -96,17 +103,13 @@ pub unsafe extern "C" fn auditor_lms_check(
     message_len: usize,
     signature: *const u8,
     signature_len: usize,
-) -> u32 {
+) -> LmsAnswer {
     let verdict = check(
         from_raw_parts(key, key_len),
         from_raw_parts(message, message_len),
         from_raw_parts(signature, signature_len),
     );
-    match verdict {
-        Verdict::Good => 0,
-        Verdict::Bad => 15,
-        Verdict::Long => 16,
-    }
+    LmsAnswer { number: verdict.number().into(), leaf: verdict.leaf() }
 }
 
 /// Writes the root that the signature leads to, whatever the key's root is; 1, or 0 if it leads to

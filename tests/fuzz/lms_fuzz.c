@@ -6,15 +6,15 @@
  * there is. A mutation changes one of the parts, or gives key and signature types that are known
  * and the signature their length, or takes another leaf number, and writes the lengths anew.
  *
- * The number has to be that of the separately written auditor, whose branches lead the fuzzer on,
- * with the types of the signatures that lead to a root. Such a signature is hardly ever good once
- * something has been changed, so the auditor's root is then put into the key: now it has to be
- * good, which it is only if the library comes to the same root; and with one bit of that changed,
- * or with a byte more or fewer of key or signature, it has to be bad.
+ * Number and leaf have to be those of the separately written auditor, whose branches lead the
+ * fuzzer on, with the types of the signatures that lead to a root. Such a signature is hardly ever
+ * good once something has been changed, so the auditor's root is then put into the key: now it has
+ * to be good, which it is only if the library comes to the same root, and by the leaf that it
+ * begins with; and with one bit of the root changed, or with a byte more or fewer of key or
+ * signature, it has to be bad, and beside that the leaf is 0.
  */
 #define _GNU_SOURCE
 #include "big_endian.h"
-#include "hirelog.h"
 #include "parts.h"
 
 enum { KEY, MESSAGE, SIGNATURE };
@@ -112,12 +112,19 @@ size_t LLVMFuzzerCustomMutator(uint8_t *data, size_t size, size_t max_size, unsi
 
 /* ---- what must hold */
 
-static uint32_t library(const struct input *input)
+static struct hirelog_lms_answer library(const struct input *input)
 {
     const uint8_t *lent[PARTS];
     lend(input->parts, input->lens, input->how, lent);
     return hirelog_lms_check(lent[KEY], input->lens[KEY], lent[MESSAGE], input->lens[MESSAGE],
                              lent[SIGNATURE], input->lens[SIGNATURE]);
+}
+
+/* Whether the library answers so. */
+static int answers(const struct input *input, uint32_t number, uint32_t leaf)
+{
+    struct hirelog_lms_answer answer = library(input);
+    return answer.number == number && answer.leaf == leaf;
 }
 
 /* Of a signature that leads to this root: good for it, and bad for another or in other lengths. */
@@ -131,20 +138,20 @@ static void check_root(const struct input *input, const uint8_t root[32])
     memcpy(signature, input->parts[SIGNATURE], input->lens[SIGNATURE]);
     other.parts[KEY] = key;
     other.parts[SIGNATURE] = signature;
-    if (library(&other) != HIRELOG_OK)
-        fail("the library comes to another root than the auditor");
+    if (!answers(&other, HIRELOG_OK, read_u32(signature)))
+        fail("the library comes to another root than the auditor, or answers another leaf");
     for (int which = KEY; which <= SIGNATURE; which += SIGNATURE - KEY) {
         other.lens[which]++;
-        uint32_t longer = library(&other);
+        int longer = answers(&other, HIRELOG_BAD_SIGNATURE, 0);
         other.lens[which] -= 2;
-        uint32_t shorter = library(&other);
+        int shorter = answers(&other, HIRELOG_BAD_SIGNATURE, 0);
         other.lens[which]++;
-        if (longer != HIRELOG_BAD_SIGNATURE || shorter != HIRELOG_BAD_SIGNATURE)
-            fail("good with a byte more or fewer");
+        if (!longer || !shorter)
+            fail("good with a byte more or fewer, or with a leaf");
     }
     key[ROOT_AT + bit / 8 % 32] ^= (uint8_t)(1 << bit % 8);
-    if (library(&other) != HIRELOG_BAD_SIGNATURE)
-        fail("good for a root with a bit changed");
+    if (!answers(&other, HIRELOG_BAD_SIGNATURE, 0))
+        fail("good for a root with a bit changed, or with a leaf");
 }
 
 int LLVMFuzzerTestOneInput(const uint8_t *data, size_t size)
@@ -153,16 +160,16 @@ int LLVMFuzzerTestOneInput(const uint8_t *data, size_t size)
     uint8_t root[32];
     if (!read_input(data, size, &input))
         return 0;
-    uint32_t number = library(&input);
-    if (number != auditor_lms_check(input.parts[KEY], input.lens[KEY], input.parts[MESSAGE],
-                                    input.lens[MESSAGE], input.parts[SIGNATURE],
-                                    input.lens[SIGNATURE]))
-        fail("another number than the auditor's");
+    struct hirelog_lms_answer right =
+        auditor_lms_check(input.parts[KEY], input.lens[KEY], input.parts[MESSAGE],
+                          input.lens[MESSAGE], input.parts[SIGNATURE], input.lens[SIGNATURE]);
+    if (!answers(&input, right.number, right.leaf))
+        fail("another number or leaf than the auditor's");
     if (auditor_lms_root(input.parts[KEY], input.lens[KEY], input.parts[MESSAGE],
                          input.lens[MESSAGE], input.parts[SIGNATURE], input.lens[SIGNATURE],
                          root)) {
         int tree = input.parts[KEY][3] - 5, one_time = input.parts[KEY][7] - 1;
-        seen[2 * (4 * tree + one_time) + (number == HIRELOG_OK)] = 1;
+        seen[2 * (4 * tree + one_time) + (right.number == HIRELOG_OK)] = 1;
         check_root(&input, root);
     }
     return 0;

@@ -6,6 +6,7 @@
 #define PARTS_H
 
 #include "guarded.h"
+#include "hirelog.h"
 
 #include <stddef.h>
 #include <stdint.h>
@@ -23,8 +24,9 @@ uint32_t auditor_audit(const uint8_t *roster, size_t roster_len, const uint8_t *
 uint32_t auditor_assemble(const uint8_t *roster, size_t roster_len, const uint8_t *log,
                           size_t log_len, const uint8_t *items, size_t items_len, uint8_t *output,
                           size_t output_len, size_t *length);
-uint32_t auditor_lms_check(const uint8_t *key, size_t key_len, const uint8_t *message,
-                           size_t message_len, const uint8_t *signature, size_t signature_len);
+struct hirelog_lms_answer auditor_lms_check(const uint8_t *key, size_t key_len,
+                                            const uint8_t *message, size_t message_len,
+                                            const uint8_t *signature, size_t signature_len);
 uint32_t auditor_lms_root(const uint8_t *key, size_t key_len, const uint8_t *message,
                           size_t message_len, const uint8_t *signature, size_t signature_len,
                           uint8_t root[32]);

@@ -1,13 +1,13 @@
-//! Document 01, The report: the fork, the charges by rules 1 to 4, and the report's bytes. Rule 1
-//! is that of document 02, W4.
+//! Document 01, The report: the fork, the charges by rules 1 to 5, and the report's bytes. Rule 1
+//! is that of document 02, W4, and rule 5 that of W5.
 
 use crate::bytes::{u16_at, u32_at};
 use crate::numbers::{
-    ACCEPTED, SHORT_REPORT, STALE_VOTE, STALE_VOTE_EXCHANGED, TWO_STAMPS, TWO_VOTES,
+    ACCEPTED, ONE_LEAF, SHORT_REPORT, STALE_VOTE, STALE_VOTE_EXCHANGED, TWO_STAMPS, TWO_VOTES,
 };
 use crate::roster::{replicas_of, Roster, MOST};
 use crate::statement::{vote_fields, Record};
-use crate::submission::{LeaderCertificate, Run, Submission};
+use crate::submission::{LeaderCertificate, Run, Submission, Use};
 use crate::verdicts::Verdicts;
 
 /// Bytes of a report.
@@ -17,6 +17,7 @@ pub const REPORT_SIZE: usize = 53;
 #[derive(Clone, Copy, Debug, PartialEq, Eq, PartialOrd, Ord)]
 pub struct Charge {
     pub rule: u8,
+    /// For rule 5 a leaf number stands in its place.
     pub term: u32,
 }
 
@@ -125,7 +126,7 @@ fn fork(first: &Submission, second: &Submission) -> u32 {
         .unwrap_or(0)
 }
 
-/// The lowest charge of each replica: the lowest rule, and for it the lowest term.
+/// The lowest charge of each replica: the lowest rule, and for it the lowest term, or leaf number.
 fn rows(first: &Submission, second: &Submission) -> [Option<Charge>; MOST] {
     let mut charges = Vec::new();
     for (a, run_a) in first.leaders.iter().zip(first.runs()) {
@@ -136,6 +137,7 @@ fn rows(first: &Submission, second: &Submission) -> [Option<Charge>; MOST] {
     }
     charges.extend(receipt_then_vote(STALE_VOTE, first, second));
     charges.extend(receipt_then_vote(STALE_VOTE_EXCHANGED, second, first));
+    charges.extend(rule_5(first.uses.iter().chain(&second.uses).collect()));
 
     let mut rows = [None; MOST];
     for (replica, charge) in charges {
@@ -182,6 +184,21 @@ fn receipt_then_vote(rule: u8, one: &Submission, other: &Submission) -> Vec<(u16
         if vote.term > t && is_staler((vote.last_term, vote.last_index), (t, c)) {
             let charge = Charge { rule, term: vote.term };
             charges.extend(both(commit.signers, leader.signers).into_iter().map(|k| (k, charge)));
+        }
+    }
+    charges
+}
+
+/// Rule 5: two good signatures of one replica, in one submission or in both, with one leaf number
+/// and different messages. These are compared by the bytes that are signed, so that a stamp and a
+/// receipt differ, and the same message signed again does not.
+fn rule_5(uses: Vec<&Use>) -> Vec<(u16, Charge)> {
+    let mut charges = Vec::new();
+    for (i, a) in uses.iter().enumerate() {
+        for b in &uses[..i] {
+            if a.replica == b.replica && a.leaf == b.leaf && a.message != b.message {
+                charges.push((a.replica, Charge { rule: ONE_LEAF, term: a.leaf }));
+            }
         }
     }
     charges
@@ -246,6 +263,26 @@ mod tests {
             let later = Vote { candidate, term: 8, last_index: 7, ..VOTE };
             assert_eq!(charged(VOTE, 0b111, later, 0b111), vec![]);
         }
+    }
+
+    /// Document 02, W5: one leaf, one message, for each replica by itself.
+    #[test]
+    fn one_leaf() {
+        let by = |replica, leaf, message: &[u8]| Use { replica, leaf, message: message.to_vec() };
+        let charged = |uses: &[Use]| {
+            let mut charges = rule_5(uses.iter().collect());
+            charges.sort();
+            charges
+        };
+        let right = [by(1, 0, b"a"), by(1, 1, b"b"), by(2, 0, b"b"), by(1, 0, b"a")];
+        assert_eq!(charged(&right), vec![]);
+        assert_eq!(charged(&[by(1, 3, b"a"), by(1, 4, b"a")]), vec![], "two leaves, one message");
+        let charge = |leaf| Charge { rule: 5, term: leaf };
+        assert_eq!(charged(&[by(2, 0, b"a"), by(2, 0, b"b")]), vec![(2, charge(0))]);
+        let apart = [by(2, 7, b"a"), by(1, 7, b"c"), by(2, 7, b"a"), by(2, 7, b"b")];
+        assert_eq!(charged(&apart), vec![(2, charge(7)); 2], "with either of the two");
+        let twice = [by(1, 9, b"a"), by(1, 9, b"b"), by(1, 8, b"c"), by(1, 8, b"d")];
+        assert_eq!(charged(&twice), vec![(1, charge(8)), (1, charge(9))]);
     }
 
     /// Document 01, Bench figures: against (3, 7), (3, 6) is staler, (3, 7) and (4, 1) are not.

@@ -60,10 +60,10 @@ impl Draft {
         draft
     }
 
-    /// The parts as they are.
+    /// The parts as they are, unchecked.
     pub fn parts_of(&self) -> Submission {
         let Draft { records, leaders, stamps, commit, .. } = self.clone();
-        Submission { records, leaders, stamps, commit }
+        Submission { records, leaders, stamps, commit, uses: Vec::new() }
     }
 
     /// Sets the counts and the distances to those of the parts as they are.

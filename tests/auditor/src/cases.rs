@@ -9,6 +9,7 @@ mod edges;
 mod forged;
 mod layouts;
 mod leaders;
+pub mod leaves;
 mod order;
 mod pairs;
 mod reports;
@@ -139,6 +140,7 @@ pub fn run(seed: u64, size: Size, take: &mut dyn FnMut(&Case)) {
     cases.districts();
     cases.every_length();
     cases.every_byte();
+    cases.leaves();
 }
 
 /// Where cases come from and where they go.

@@ -66,7 +66,17 @@ impl Keys {
 
     /// So many real leaves, from leaf 0 on, in trees of a chosen type.
     pub fn cluster_from_0(&self, n: usize, tree: u32, leaves: u32) -> Rc<Cluster> {
-        self.make(n, tree_type(tree).expect("a tree type is 5 to 9"), |_| 0..leaves)
+        self.cluster_each(n, tree, |_| 0..leaves)
+    }
+
+    /// The real leaves of each replica, in trees of a chosen type.
+    pub fn cluster_each(
+        &self,
+        n: usize,
+        tree: u32,
+        real: impl Fn(usize) -> Range<u32>,
+    ) -> Rc<Cluster> {
+        self.make(n, tree_type(tree).expect("a tree type is 5 to 9"), real)
     }
 
     fn make(
@@ -142,14 +152,18 @@ impl Cluster {
     /// A replica's signature by a chosen leaf, whatever else that leaf has signed. A `Signer`
     /// chooses leaves so that none signs two messages.
     pub fn sign_with(&self, replica: u16, leaf: u32, message: &[u8]) -> Vec<u8> {
-        let sign = || {
-            self.keys[replica as usize - 1].sign(leaf, message).unwrap_or_else(|| {
-                let real = self.leaves(replica);
-                panic!("leaf {leaf} of replica {replica} is none of {real:?}: ask for more leaves")
-            })
-        };
+        let sign = || self.sign_anew(replica, leaf, 0, message);
         let mut made = self.made.borrow_mut();
         made.entry((replica, leaf, message.to_vec())).or_insert_with(sign).clone()
+    }
+
+    /// The same with another C for each number, and so with other bytes; 0 has that of `sign_with`.
+    pub fn sign_anew(&self, replica: u16, leaf: u32, number: u8, message: &[u8]) -> Vec<u8> {
+        let key = &self.keys[replica as usize - 1];
+        key.sign_anew(leaf, number, message).unwrap_or_else(|| {
+            let real = self.leaves(replica);
+            panic!("leaf {leaf} of replica {replica} is none of {real:?}: ask for more leaves")
+        })
     }
 
     /// As many bytes as the signers' signatures have, and none of them a signature.

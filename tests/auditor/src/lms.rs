@@ -2,6 +2,7 @@
 
 pub mod sign;
 
+use crate::numbers::{ACCEPTED, LONG_MESSAGE, SIGNATURE};
 use crate::sha256::{sha256, sha256_of_one_block, Digest, ONE_BLOCK};
 
 /// A longer message is neither good nor bad (document 01, Digest and signature).
@@ -70,32 +71,57 @@ pub fn signature_length(one_time: &OneTimeType, tree: &TreeType) -> usize {
 /// What a check says.
 #[derive(Clone, Copy, Debug, PartialEq)]
 pub enum Verdict {
-    Good,
+    /// With the number of the leaf that has signed (document 02, W5).
+    Good(u32),
     Bad,
     Long,
 }
 
-/// Whether the signature is the key's for the message.
+impl Verdict {
+    /// The number that the library has for it (document 01, What stops an audit).
+    pub fn number(self) -> u8 {
+        match self {
+            Verdict::Good(_) => ACCEPTED,
+            Verdict::Bad => SIGNATURE,
+            Verdict::Long => LONG_MESSAGE,
+        }
+    }
+
+    /// The leaf of a good signature; 0 otherwise.
+    pub fn leaf(self) -> u32 {
+        match self {
+            Verdict::Good(leaf) => leaf,
+            Verdict::Bad | Verdict::Long => 0,
+        }
+    }
+}
+
+/// Whether the signature is the key's for the message, and by which leaf.
 pub fn check(key: &[u8], message: &[u8], signature: &[u8]) -> Verdict {
     if message.len() > MESSAGE_LIMIT {
         return Verdict::Long;
     }
     match verify(key, message, signature) {
-        Some(true) => Verdict::Good,
-        Some(false) | None => Verdict::Bad,
+        Some(leaf) => Verdict::Good(leaf),
+        None => Verdict::Bad,
     }
 }
 
-/// RFC 8554, 5.4.2, algorithm 6; nothing where it returns INVALID before the last step.
-fn verify(key: &[u8], message: &[u8], signature: &[u8]) -> Option<bool> {
-    let candidate = candidate(key, message, signature)?;
+/// RFC 8554, 5.4.2, algorithm 6: the leaf number of a signature for which it returns VALID.
+fn verify(key: &[u8], message: &[u8], signature: &[u8]) -> Option<u32> {
+    let (leaf, candidate) = led_to(key, message, signature)?;
     // Step 4: the candidate root is the key's.
     let root: Digest = array_at(key, 24)?;
-    Some(candidate == root)
+    (candidate == root).then_some(leaf)
 }
 
-/// The same algorithm's steps 1 to 3: the candidate root, to which the key's root is nothing.
+/// The root that a signature leads to, to which the key's root is nothing.
 pub fn candidate(key: &[u8], message: &[u8], signature: &[u8]) -> Option<Digest> {
+    led_to(key, message, signature).map(|(_, root)| root)
+}
+
+/// The same algorithm's steps 1 to 3: the leaf number and the candidate root.
+fn led_to(key: &[u8], message: &[u8], signature: &[u8]) -> Option<(u32, Digest)> {
     // Steps 1 and 2: the parts of the key, and its exact length.
     let tree = tree_type(u32_at(key, 0)?)?;
     let one_time = one_time_type(u32_at(key, 4)?)?;
@@ -107,14 +133,14 @@ pub fn candidate(key: &[u8], message: &[u8], signature: &[u8]) -> Option<Digest>
     candidate_root(identifier, tree, one_time, message, signature)
 }
 
-/// RFC 8554, 5.4.2, algorithm 6a: the root that the signature leads to.
+/// RFC 8554, 5.4.2, algorithm 6a: the leaf number, and the root that the signature leads to.
 fn candidate_root(
     identifier: [u8; 16],
     tree: &TreeType,
     one_time: &'static OneTimeType,
     message: &[u8],
     signature: &[u8],
-) -> Option<Digest> {
+) -> Option<(u32, Digest)> {
     // Steps 1 and 2.a to 2.c: the leaf number and the one-time type.
     let q = u32_at(signature, 0)?;
     if u32_at(signature, 4)? != one_time.code {
@@ -147,7 +173,7 @@ fn candidate_root(
         };
         path_at += N;
     }
-    Some(value)
+    Some((q, value))
 }
 
 /// RFC 8554, 4.6, algorithm 4b: the one-time key that the one-time signature leads to.

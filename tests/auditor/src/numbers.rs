@@ -1,6 +1,6 @@
 //! Document 01, What stops an audit, and The report: the numbers, as this auditor gives them, and
-//! the rules; numbers 17 and 18 are of document 02, W1, and 19 to 21 of W3. The program numbers prints
-//! the two lists, which tests/scripts/numbers compares with docs/NUMBERS.md.
+//! the rules; numbers 17 and 18 are of document 02, W1, and 19 to 21 of W3, rule 5 of W5. The program
+//! numbers prints the two lists, which tests/scripts/numbers compares with docs/NUMBERS.md.
 
 pub const ACCEPTED: u8 = 0;
 pub const SHORT_REPORT: u8 = 1;
@@ -30,6 +30,7 @@ pub const TWO_VOTES: u8 = 1;
 pub const TWO_STAMPS: u8 = 2;
 pub const STALE_VOTE: u8 = 3;
 pub const STALE_VOTE_EXCHANGED: u8 = 4;
+pub const ONE_LEAF: u8 = 5;
 
 /// A number or a rule, what it is about, and its word.
 pub type Row = (u8, &'static str, &'static str);
@@ -60,10 +61,11 @@ pub const NUMBERS: &[Row] = &[
     (SHORT_OUTPUT, "output", "short output"),
 ];
 
-/// Every rule; the words are ours, for document 01 has none.
+/// Every rule; the words are ours, for the documents have none.
 pub const RULES: &[Row] = &[
     (TWO_VOTES, "votes", "two votes"),
     (TWO_STAMPS, "stamps", "two stamps"),
     (STALE_VOTE, "receipts", "stale vote"),
     (STALE_VOTE_EXCHANGED, "receipts", "stale vote, exchanged"),
+    (ONE_LEAF, "leaves", "one leaf"),
 ];

@@ -114,7 +114,7 @@ mod tests {
         for message in 0..32u8 {
             let signature = signer.sign(1, &[message]);
             assert_eq!(u32_at(&signature, 0), message.into());
-            assert_eq!(check(roster.key(1), &[message], &signature), Verdict::Good);
+            assert_eq!(check(roster.key(1), &[message], &signature), Verdict::Good(message.into()));
         }
         for message in 0..32u8 {
             assert_eq!(u32_at(&signer.sign(1, &[message]), 0), message.into(), "kept");
@@ -147,7 +147,7 @@ mod tests {
         assert_eq!(leaf(&Signer::new(&cluster), b"one"), 0);
     }
 
-    /// A later request needs a one-time key that is used twice: a chosen leaf signs anything.
+    /// Rule 5 needs a one-time key that is used twice: a chosen leaf signs anything.
     #[test]
     fn one_leaf_twice() {
         let signer = Signer::new(&Keys::new("signer").cluster(3, 6));
@@ -155,8 +155,8 @@ mod tests {
         let leaf = signer.leaves(2).start + 5;
         let two = [&b"one"[..], b"other"].map(|message| signer.sign_with(2, leaf, message));
         assert_eq!(two.clone().map(|signature| u32_at(&signature, 0)), [leaf; 2]);
-        assert_eq!(check(roster.key(2), b"one", &two[0]), Verdict::Good);
-        assert_eq!(check(roster.key(2), b"other", &two[1]), Verdict::Good);
+        assert_eq!(check(roster.key(2), b"one", &two[0]), Verdict::Good(leaf));
+        assert_eq!(check(roster.key(2), b"other", &two[1]), Verdict::Good(leaf));
     }
 
     /// Two submissions of one case: a vote that stands in both has one signature, and all other

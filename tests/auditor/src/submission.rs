@@ -36,13 +36,23 @@ pub struct CommitCertificate {
     pub signatures: Vec<Vec<u8>>,
 }
 
-/// The four parts before the trailer.
+/// The four parts before the trailer, and what the check of their signatures answers.
 #[derive(Clone, Debug)]
 pub struct Submission {
     pub records: Vec<Record>,
     pub leaders: Vec<LeaderCertificate>,
     pub stamps: Vec<Vec<u8>>,
     pub commit: Option<CommitCertificate>,
+    /// One for each signature, in their order; none as long as they are not checked.
+    pub uses: Vec<Use>,
+}
+
+/// A leaf that a replica has used (document 02, W5): its number, and the message that it signed.
+#[derive(Clone, Debug, PartialEq)]
+pub struct Use {
+    pub replica: u16,
+    pub leaf: u32,
+    pub message: Vec<u8>,
 }
 
 /// The trailer's fields.
@@ -101,14 +111,14 @@ impl Submission {
         if trailer.records > MOST_RECORDS || trailer.leaders > MOST_TERMS {
             return Err(numbers::COUNTS);
         }
-        let submission =
+        let parts =
             layout::parts(bytes, &trailer, roster.signature_size()).ok_or(numbers::LAYOUT)?;
-        submission.validate(roster, verdicts)?;
-        Ok(submission)
+        let uses = parts.validate(roster, verdicts)?;
+        Ok(Submission { uses, ..parts })
     }
 
-    /// The lowest of the numbers 10 to 15 that applies, if one does.
-    fn validate(&self, roster: &Roster, verdicts: &mut Verdicts) -> Result<(), u8> {
+    /// The leaves that its signatures use, or the lowest of the numbers 10 to 15 that applies.
+    fn validate(&self, roster: &Roster, verdicts: &mut Verdicts) -> Result<Vec<Use>, u8> {
         if !self.signers_are_right(roster) {
             return Err(numbers::SIGNERS);
         }
@@ -128,10 +138,7 @@ impl Submission {
         {
             return Err(numbers::COMMIT_INDEX);
         }
-        if !self.signatures_are_good(roster, verdicts) {
-            return Err(numbers::SIGNATURE);
-        }
-        Ok(())
+        self.uses_of_good(roster, verdicts).ok_or(numbers::SIGNATURE)
     }
 
     /// Check 10: every certificate has at least q signers, none above replica n.
@@ -160,11 +167,14 @@ impl Submission {
         })
     }
 
-    /// Check 15: votes, stamps and receipts.
-    fn signatures_are_good(&self, roster: &Roster, verdicts: &mut Verdicts) -> bool {
-        self.slots(&roster.name)
-            .iter()
-            .all(|slot| verdicts.good(roster.key(slot.replica), &slot.statement, slot.signature))
+    /// Check 15: votes, stamps and receipts; if all are good, the leaf and the message of each.
+    fn uses_of_good(&self, roster: &Roster, verdicts: &mut Verdicts) -> Option<Vec<Use>> {
+        let checked = self.slots(&roster.name).into_iter().map(|slot| {
+            let Slot { replica, statement: message, signature } = slot;
+            let leaf = verdicts.leaf(roster.key(replica), &message, signature)?;
+            Some(Use { replica, leaf, message })
+        });
+        checked.collect()
     }
 
     /// Every signature of a submission that meets checks 10 to 14, with what it stands on.

@@ -1,6 +1,6 @@
 //! vectors FILE...: runs this package's own SHA-256 and LMS check over published vectors.
 //! A line of two fields is a message and its digest; one of five is a name, 1 or 0, a key,
-//! a message and a signature.
+//! a message and a signature. The leaf of a good one has to be the number that it begins with.
 
 use auditor::{hex, lms, sha256::sha256};
 use std::{env, fs, process::exit};
@@ -38,13 +38,14 @@ fn agrees(line: &str) -> Option<bool> {
     match fields[..] {
         [message, digest] => Some(sha256(&[&hex::read(message)?])[..] == hex::read(digest)?),
         [_, valid, key, message, signature] => {
+            let (key, message, signature) =
+                (hex::read(key)?, hex::read(message)?, hex::read(signature)?);
             let expected = match valid {
-                "1" => lms::Verdict::Good,
+                "1" => lms::Verdict::Good(u32::from_be_bytes(*signature.first_chunk()?)),
                 "0" => lms::Verdict::Bad,
                 _ => return None,
             };
-            let (key, message) = (hex::read(key)?, hex::read(message)?);
-            Some(lms::check(&key, &message, &hex::read(signature)?) == expected)
+            Some(lms::check(&key, &message, &signature) == expected)
         }
         _ => None,
     }

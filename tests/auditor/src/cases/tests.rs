@@ -91,9 +91,12 @@ fn counts(seed: u64, size: Size) -> ([usize; 16], [usize; 5]) {
                     *count += usize::from(found);
                 }
             }
-            let signatures = signatures(case, &two);
-            signed += signatures.len();
-            broken.extend(leaves_shared(&signatures).map(|why| format!("{}: {why}", case.name)));
+            if !case.name.starts_with("leaves: ") {
+                let signatures = signatures(case, &two);
+                signed += signatures.len();
+                let shared = leaves_shared(&signatures);
+                broken.extend(shared.map(|why| format!("{}: {why}", case.name)));
+            }
         }
         verdicts.asked = asked;
         assert_eq!(report[..REPORT_SIZE], found.bytes());

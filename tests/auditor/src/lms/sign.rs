@@ -144,7 +144,7 @@ mod tests {
             let tree = Tree::new(kind, &TREE_TYPES[0], [7; 16], [8; 32]);
             for q in 0..32 {
                 let signature = tree.sign(q, &[9; 32], b"message");
-                assert_eq!(check(&tree.key(), b"message", &signature), Verdict::Good);
+                assert_eq!(check(&tree.key(), b"message", &signature), Verdict::Good(q));
                 assert_eq!(check(&tree.key(), b"massage", &signature), Verdict::Bad);
             }
         }

@@ -44,7 +44,8 @@ pub fn parts(bytes: &[u8], trailer: &Trailer, s: usize) -> Option<Submission> {
         }
         commit = Some(reader.commit(s)?);
     }
-    (reader.at == body.len()).then_some(Submission { records, leaders, stamps, commit })
+    let uses = Vec::new();
+    (reader.at == body.len()).then_some(Submission { records, leaders, stamps, commit, uses })
 }
 
 /// Reads on from an offset.

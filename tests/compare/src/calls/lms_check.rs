@@ -1,17 +1,18 @@
-//! `hirelog_lms_check`: the signature check.
+//! `hirelog_lms_check`: the signature check. It answers a number and, for a good signature, the
+//! leaf that has signed.
 
 mod cases;
 
 use crate::call::{Call, Case, Input, Output, Shape};
 use auditor::cases::Size;
-use auditor::lms::{check, Verdict};
-use hirelog::sys::hirelog_lms_check;
+use auditor::lms::check;
+use hirelog::sys::{hirelog_lms_check, LmsAnswer};
 
 static SHAPE: Shape = Shape {
     name: "lms_check",
     inputs: &["key", "message", "signature"],
     outputs: &[],
-    returns: &["number"],
+    returns: &["number", "leaf"],
     numbers: &[0, 15, 16],
     within: &[],
     fewest: (20_000, 5000),
@@ -32,7 +33,7 @@ impl Call for LmsCheck {
     fn library(&self, inputs: &[Input], _: &mut [Output]) -> Vec<u64> {
         let [key, message, signature] = inputs else { unreachable!("three inputs") };
         // SAFETY: as the harness says.
-        let number = unsafe {
+        let LmsAnswer { number, leaf } = unsafe {
             hirelog_lms_check(
                 key.start(),
                 key.length(),
@@ -42,19 +43,11 @@ impl Call for LmsCheck {
                 signature.length(),
             )
         };
-        vec![number.into()]
+        vec![number.into(), leaf.into()]
     }
 
     fn auditor(&self, inputs: &[&[u8]], _: &mut [&mut [u8]]) -> Vec<u64> {
-        vec![number(check(inputs[0], inputs[1], inputs[2]))]
-    }
-}
-
-/// The number that the library has for a verdict (document 01, What stops an audit).
-fn number(verdict: Verdict) -> u64 {
-    match verdict {
-        Verdict::Good => 0,
-        Verdict::Bad => 15,
-        Verdict::Long => 16,
+        let verdict = check(inputs[0], inputs[1], inputs[2]);
+        vec![verdict.number().into(), verdict.leaf().into()]
     }
 }

@@ -41,10 +41,11 @@ impl OneTimeKeys {
         self.chains(q).public
     }
 
-    /// RFC 8554, 4.5, algorithm 3, as `OneTime::sign` has it, from the values kept. Seed and
-    /// message choose C, so a leaf's signature of a message is always the same.
-    pub fn sign(&self, q: u32, message: &[u8]) -> Vec<u8> {
-        let c = sha256(&[b"C", &self.seed, message]);
+    /// RFC 8554, 4.5, algorithm 3, as `OneTime::sign` has it, from the values kept. Seed, message
+    /// and a number choose C, so a leaf's signature of a message by one number is always the same.
+    pub fn sign(&self, q: u32, number: u8, message: &[u8]) -> Vec<u8> {
+        let number: &[u8] = if number == 0 { &[] } else { &[number] };
+        let c = sha256(&[b"C", &self.seed, message, number]);
         let (leaf, chains) = (self.leaf(q), self.chains(q));
         let digits = self.kind.digits(&leaf.message_hash(&c, message));
         let mut signature = self.kind.code.to_be_bytes().to_vec();
@@ -99,7 +100,7 @@ mod tests {
                 let one_time = OneTime::new(kind, [4; 16], q, [5; 32]);
                 assert_eq!(keys.public(q), one_time.public());
                 for message in 0..8u8 {
-                    let signature = keys.sign(q, &[message]);
+                    let signature = keys.sign(q, message % 3, &[message]);
                     let c = signature[4..36].try_into().expect("32 bytes");
                     assert_eq!(signature, one_time.sign(&c, &[message]));
                 }

@@ -70,6 +70,11 @@ impl FewLeaves {
     /// Leaf q's signature, if it is one of the real leaves. A leaf that has signed another message
     /// signs this one too: whoever calls sees to that.
     pub fn sign(&self, q: u32, message: &[u8]) -> Option<Vec<u8>> {
+        self.sign_anew(q, 0, message)
+    }
+
+    /// The same with another C for each number; 0 has that of `sign`.
+    pub fn sign_anew(&self, q: u32, number: u8, message: &[u8]) -> Option<Vec<u8>> {
         if !self.real.contains(&q) {
             return None;
         }
@@ -77,7 +82,7 @@ impl FewLeaves {
         let mut path: Vec<Digest> =
             (0..self.low).map(|level| self.nodes[(local >> level) ^ 1]).collect();
         path.extend(&self.path);
-        Some(join(q, &self.keys.sign(q, message), self.tree, &path))
+        Some(join(q, &self.keys.sign(q, number, message), self.tree, &path))
     }
 }
 
@@ -103,7 +108,7 @@ mod tests {
                     let signature = few.sign(q, &[7]).expect("a real leaf");
                     assert_eq!(signature.len(), few.signature_length());
                     assert_eq!(signature[..4], q.to_be_bytes());
-                    assert_eq!(check(few.key(), &[7], &signature), Verdict::Good);
+                    assert_eq!(check(few.key(), &[7], &signature), Verdict::Good(q));
                     assert_eq!(check(few.key(), &[8], &signature), Verdict::Bad);
                 }
                 assert_eq!(few.sign(first + 3, &[7]), None);
@@ -128,7 +133,19 @@ mod tests {
         let few = FewLeaves::new(keys(), &TREE_TYPES[1], 64..66);
         let [one, other] = [b"one", b"two"].map(|message| few.sign(65, message).expect("real"));
         assert_eq!((&one[..4], one != other), (&other[..4], true));
-        assert_eq!(check(few.key(), b"one", &one), Verdict::Good);
-        assert_eq!(check(few.key(), b"two", &other), Verdict::Good);
+        assert_eq!(check(few.key(), b"one", &one), Verdict::Good(65));
+        assert_eq!(check(few.key(), b"two", &other), Verdict::Good(65));
+    }
+
+    /// A leaf may sign one message twice, with other bytes: both are good.
+    #[test]
+    fn one_message_twice() {
+        let few = FewLeaves::new(keys(), &TREE_TYPES[1], 64..66);
+        let signed = [0, 1, 2].map(|number| few.sign_anew(64, number, b"one").expect("real"));
+        assert_eq!(few.sign(64, b"one").as_ref(), Some(&signed[0]));
+        assert!(signed[0] != signed[1] && signed[0] != signed[2] && signed[1] != signed[2]);
+        for signature in signed {
+            assert_eq!(check(few.key(), b"one", &signature), Verdict::Good(64));
+        }
     }
 }

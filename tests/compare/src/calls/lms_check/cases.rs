@@ -5,8 +5,7 @@ mod messages;
 mod shapes;
 mod spoiled;
 
-use super::number;
-use crate::call::{self, Case};
+use crate::call::{Answer, Case};
 use auditor::cases::Size;
 use auditor::lms::sign::OneTime;
 use auditor::lms::Verdict::{self, Bad, Good, Long};
@@ -146,8 +145,9 @@ impl Inputs<'_> {
         self.make(one_time, tree, q, message)
     }
 
+    /// By the leaf that it was made with.
     fn good(&mut self, what: &str, made: &Made) {
-        self.hand_on(what, made, Good);
+        self.hand_on(what, made, Good(made.q));
     }
 
     fn bad(&mut self, what: &str, made: &Made) {
@@ -159,11 +159,16 @@ impl Inputs<'_> {
     }
 
     fn hand_on(&mut self, what: &str, made: &Made, verdict: Verdict) {
+        let right = [verdict.number().into(), verdict.leaf().into()];
+        let broken = move |answer: &Answer| {
+            let found = &answer.returned;
+            (found[..] != right).then(|| format!("made to be {right:?}, and is {found:?}"))
+        };
         (self.take)(&Case {
             name: made.name(what),
             inputs: vec![&made.key, &made.message, &made.signature],
             outputs: vec![],
-            expect: call::number(number(verdict)),
+            expect: Some(Box::new(broken)),
         });
     }
 }
