@@ -5,6 +5,7 @@
 mod damaged;
 mod districts;
 mod forks;
+mod leaves;
 mod lengths;
 mod order;
 mod places;
@@ -98,6 +99,7 @@ pub fn run(seed: u64, size: Size, take: &mut dyn FnMut(&Case)) {
     cases.nine_of_nine();
     cases.damaged();
     cases.districts();
+    cases.leaves();
 }
 
 /// Where cases come from and where they go.

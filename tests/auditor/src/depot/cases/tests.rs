@@ -53,7 +53,9 @@ fn tally(seed: u64, size: Size) -> Tally {
             }
             tally.forks += usize::from(found.fork != (0, 0));
             tally.named += usize::from(found.fork == (0, 0) && found.named != 0);
-            why.push(leaves_broken(case, found, &mut verdicts));
+            if !case.name.starts_with("leaves: ") {
+                why.push(leaves_broken(case, found, &mut verdicts));
+            }
         }
         verdicts.asked = asked;
         broken.extend(why.into_iter().flatten().map(|why| format!("{}: {why}", case.name)));
