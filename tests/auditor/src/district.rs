@@ -1,5 +1,5 @@
-//! A simulated district: replicas that act by document 01's board rules, with document 02's W4,
-//! honest and cheating, and the submissions that what they signed allows.
+//! A simulated district: replicas that act by document 01's board rules, with document 02's W4 and
+//! W5, honest and cheating, and the submissions that what they signed allows.
 
 pub mod acts;
 pub mod premises;
@@ -13,8 +13,8 @@ use crate::random::Random;
 use crate::roster::{mask_of, quorum, replicas_of};
 use crate::sha256::sha256;
 use crate::signer::Signer;
-use crate::statement::{pointers, Position, Record, Vote};
-use crate::submission::Submission;
+use crate::statement::{pointers, position, Position, Record, Statement, Vote};
+use crate::submission::{Submission, Use};
 pub use replica::Act;
 use replica::{Cheats, Replica};
 use signed::Signed;
@@ -30,9 +30,27 @@ pub struct Claim {
 }
 
 impl Claim {
-    /// The submission, as it is accepted, without signatures.
+    /// The submission, as it is accepted, without signatures, and so without the leaves.
     pub fn unsigned(&self) -> Submission {
         Draft::unsigned([0; 16], &self.records, &self.leaders, self.commit).parts_of()
+    }
+
+    /// Every signature that it has: whose, and on what.
+    fn statements(&self) -> Vec<(u16, Statement)> {
+        let Submission { records, leaders, commit, .. } = self.unsigned();
+        let pointers = pointers(&records);
+        let at = |index: usize| position(&records, &pointers, index);
+        let each =
+            |signers, statement| replicas_of(signers).into_iter().map(move |k| (k, statement));
+        let mut all = Vec::new();
+        for (leader, end) in leaders.iter().zip(ends(&records)) {
+            all.extend(each(leader.signers, Statement::Vote(leader.vote)));
+            all.push((leader.vote.candidate, Statement::Stamp(at(end))));
+        }
+        if let Some(commit) = commit {
+            all.extend(each(commit.signers, Statement::Receipt(at(commit.index as usize))));
+        }
+        all
     }
 
     pub fn draft(&self, signer: &Signer) -> Draft {
@@ -49,6 +67,8 @@ pub struct District {
     signed: Signed,
     /// Replicas whose key others have: it signs whatever is asked for, and no state is kept.
     shared: u16,
+    /// Replicas that sign with leaves that have signed another message.
+    reusing: u16,
     /// Replicas that keep to the rules, in one life, with their key to themselves.
     pub honest: u16,
     /// Logs that some replica has held.
@@ -71,6 +91,7 @@ impl District {
             leaders: [None, None],
             signed: Signed::default(),
             shared: 0,
+            reusing: 0,
             honest: 0,
             held: vec![Vec::new()],
             payloads: 0,
@@ -94,6 +115,9 @@ impl District {
             life.side = i % 2;
             if !cheating.contains(number) {
                 continue;
+            }
+            if number % 3 == 0 {
+                self.reusing |= mask_of(&[*number]);
             }
             match random.below(12) {
                 0 => life.replica.cheats.votes_twice = true,
@@ -122,6 +146,10 @@ impl District {
                     self.lives.push(other);
                 }
             }
+        }
+        for life in &mut self.lives {
+            let reuses = self.reusing & mask_of(&[life.replica.number]) != 0;
+            life.replica.cheats.reuses_leaves = reuses;
         }
     }
 
@@ -189,18 +217,26 @@ impl District {
         let last_pointer = pointers(&candidate.log)[last_index as usize];
         let vote = Vote { candidate: candidate.number, term, last_term, last_index, last_pointer };
         for i in listeners {
+            let leaf = self.leaf_for(self.lives[i].replica.number, Statement::Vote(vote));
             let replica = &mut self.lives[i].replica;
-            if replica.vote(&vote, self.n) {
-                self.signed.vote(replica.number, vote);
+            if replica.vote(leaf, &vote, self.n) {
+                self.signed.vote(replica.number, leaf, vote);
             }
         }
         for number in replicas_of(self.shared) {
-            self.signed.vote(number, vote);
+            let leaf = self.leaf_for(number, Statement::Vote(vote));
+            self.signed.vote(number, leaf, vote);
         }
         let voters = replicas_of(self.signed.voters(&vote));
         if voters.len() >= quorum(self.n) && voters.contains(&vote.candidate) {
             self.leaders[side] = Some((life, vote));
         }
+    }
+
+    /// The leaf by which a replica signs a statement now.
+    fn leaf_for(&self, replica: u16, statement: Statement) -> u32 {
+        let reuses = self.reusing & mask_of(&[replica]) != 0;
+        self.signed.leaf_for(replica, &statement, reuses)
     }
 
     /// Whether the side's leader is still there and in its term.
@@ -241,9 +277,12 @@ impl District {
             self.hand_on(side, life, random);
             self.rewrite(life, vote, random);
         }
-        let replica = &mut self.lives[life].replica;
-        if let Some(at) = replica.stamp() {
-            self.signed.stamp(replica.number, at);
+        let replica = &self.lives[life].replica;
+        if let Some(at) = replica.last_own_record() {
+            let number = replica.number;
+            let leaf = self.leaf_for(number, Statement::Stamp(at));
+            self.lives[life].replica.stamp(leaf).expect("a leaf of its own, or of a cheat");
+            self.signed.stamp(number, leaf, at);
         }
         self.hand_on(side, life, random);
     }
@@ -278,21 +317,32 @@ impl District {
                 replica.take(same, &leader.log[same..]);
             }
             if random.below(6) != 0 {
-                let end = replica.log.len();
-                if let Some(at) = replica.receipt(end) {
-                    self.signed.receipt(replica.number, at);
-                }
+                self.give_receipt(i);
             }
-            self.held.push(replica.log.clone());
+            self.held.push(self.lives[i].replica.log.clone());
         }
         let index = leader.log.len();
         if index > 0 {
             let pointer = pointers(&leader.log)[index];
             let term = leader.log[index - 1].term;
+            let at = Position { term, index: index as u32, pointer };
             for number in replicas_of(self.shared) {
-                self.signed.receipt(number, Position { term, index: index as u32, pointer });
+                let leaf = self.leaf_for(number, Statement::Receipt(at));
+                self.signed.receipt(number, leaf, at);
             }
         }
+    }
+
+    /// A life gives a receipt for its last record, if it may.
+    fn give_receipt(&mut self, life: usize) {
+        let replica = &self.lives[life].replica;
+        let Some(at) = replica.last_own_record() else {
+            return;
+        };
+        let (number, end) = (replica.number, replica.log.len());
+        let leaf = self.leaf_for(number, Statement::Receipt(at));
+        self.lives[life].replica.receipt(leaf, end).expect("a leaf of its own, or of a cheat");
+        self.signed.receipt(number, leaf, at);
     }
 
     /// A replica comes to the other side, raises its term, or restarts.
@@ -325,6 +375,17 @@ impl District {
     /// How many leaves the replica with the most has used.
     pub fn leaves(&self) -> u32 {
         (1..=self.n as u16).map(|k| self.signed.leaves(k).count()).max().unwrap_or(0)
+    }
+
+    /// A claim's submission, as it is accepted, without signatures, but with the leaves that its
+    /// replicas signed by.
+    pub fn submission(&self, claim: &Claim) -> Submission {
+        let uses = claim.statements().into_iter().map(|(replica, statement)| Use {
+            replica,
+            leaf: self.signed.leaf(replica, &statement).expect("it was signed"),
+            message: statement.bytes(&[0; 16]),
+        });
+        Submission { uses: uses.collect(), ..claim.unsigned() }
     }
 
     /// Signs for the district's claims, each statement with the leaf that its replica signed it by.

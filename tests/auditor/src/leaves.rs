@@ -1,4 +1,5 @@
-//! Which leaf of a key signs which message: each new message takes the next leaf, and keeps it.
+//! Which leaf of a key signs which message: each new message takes the next leaf, unless another is
+//! chosen, and keeps it.
 
 use std::collections::HashMap;
 use std::hash::Hash;
@@ -23,6 +24,17 @@ impl<M: Eq + Hash> Leaves<M> {
             self.next += 1;
             self.next - 1
         })
+    }
+
+    /// Gives a new message a chosen leaf, whatever else that has signed.
+    pub fn put(&mut self, message: M, leaf: u32) {
+        self.taken.entry(message).or_insert(leaf);
+        self.next = self.next.max(leaf + 1);
+    }
+
+    /// How many messages there are.
+    pub fn messages(&self) -> usize {
+        self.taken.len()
     }
 
     /// The message's leaf, if it has one.
@@ -59,5 +71,16 @@ mod tests {
         let mut other = leaves.map(|message| message.to_string());
         assert_eq!((other.of("c".into()), other.of("d".into())), (2, 3));
         assert_eq!(leaves.of("e"), 3, "a copy takes leaves of its own");
+    }
+
+    /// A chosen leaf may have signed another message; a message keeps the one that it has.
+    #[test]
+    fn chosen() {
+        let mut leaves = Leaves::default();
+        assert_eq!(leaves.of("a"), 0);
+        leaves.put("b", 0);
+        leaves.put("a", 5);
+        assert_eq!((leaves.known(&"a"), leaves.known(&"b")), (Some(0), Some(0)));
+        assert_eq!((leaves.messages(), leaves.of("c")), (2, 6));
     }
 }

@@ -1,6 +1,8 @@
 //! Fairness is not an empty claim: pairs of accepted submissions that fork, in which the library
 //! names somebody, and beside whoever is named replicas that meet every premise, with signatures
-//! of their own in the pair. The same of lists of submissions, in which some pair forks.
+//! of their own in the pair, each by the very leaf that the replica signed the statement with.
+//! Whoever is shown to have used a leaf twice is named. The same of lists of submissions, in which
+//! some pair forks.
 
 use auditor::audit::compare;
 use auditor::cluster::Keys;
@@ -8,9 +10,10 @@ use auditor::depot::{self, report_size};
 use auditor::district::premises::Past;
 use auditor::district::{shuffle, two_of, Claim, District};
 use auditor::random::Random;
-use auditor::roster::{replicas_of, Roster};
+use auditor::roster::{mask_of, replicas_of, Roster};
 use auditor::submission::Submission;
 use auditor::verdicts::Verdicts;
+use std::collections::HashMap;
 
 /// How many pairs that fork are looked for, for each number of replicas; and how many lists.
 const FORKS: usize = 8;
@@ -116,16 +119,29 @@ impl Submitted {
     }
 }
 
-/// The replicas that meet every premise and signed something, and how many signatures they have.
+/// The replicas with a leaf that has two messages in the submissions, as bits.
+fn reusing(submissions: &[&Submission]) -> u16 {
+    let mut signed = HashMap::new();
+    let twice = submissions.iter().flat_map(|one| &one.uses).filter(|used| {
+        let message = *signed.entry((used.replica, used.leaf)).or_insert(&used.message);
+        *message != used.message
+    });
+    twice.fold(0, |found, used| found | mask_of(&[used.replica]))
+}
+
+/// The replicas that meet every premise and signed something, and how many signatures they have;
+/// and how many replicas used a leaf twice.
 #[derive(Default)]
 struct Sound {
     replicas: usize,
     signatures: usize,
+    reused: u32,
     verdicts: Verdicts,
 }
 
 impl Sound {
-    /// Looks at each honest replica: it has to meet the premises, and not to be named.
+    /// Looks at each honest replica: it has to meet the premises, and not to be named; and at those
+    /// that used a leaf twice: these have to be named.
     fn look(
         &mut self,
         district: &District,
@@ -153,18 +169,27 @@ impl Sound {
             self.replicas += usize::from(own > 0);
             self.signatures += own;
         }
-        Ok(())
+        let reusing = reusing(&submissions);
+        self.reused += reusing.count_ones();
+        match reusing & !named {
+            0 => Ok(()),
+            _ => Err("a replica used a leaf twice, and is not named"),
+        }
     }
 
     /// The same in words, after so many of what was looked at.
     fn told(&self, count: usize, what: &str) -> Result<String, &'static str> {
-        let Sound { replicas, signatures, .. } = self;
+        let Sound { replicas, signatures, reused, .. } = self;
         if *replicas < count / 2 {
             return Err("too few replicas meet them: look at src/district.rs");
         }
+        if *reused == 0 {
+            return Err("no replica used a leaf twice: look at src/district.rs");
+        }
         Ok(format!(
             "{count} {what}; in them {replicas} replicas with {signatures} signatures of their own \
-             meet every premise of fairness, and none is named"
+             meet every premise of fairness, and none is named; {reused} used a leaf twice, and all \
+             are"
         ))
     }
 }

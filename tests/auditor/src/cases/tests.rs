@@ -64,10 +64,29 @@ fn two_requests([first, second]: &[Submission; 2]) -> [bool; 5] {
     found
 }
 
-/// Runs the set and returns how often each number came up, and among the cases that are drawn each
-/// way in which two requests differ.
-fn counts(seed: u64, size: Size) -> ([usize; 16], [usize; 5]) {
+/// Whether the replica's leaves have one message each in the case: not where that is what the case
+/// is made for, nor for the cheats of a simulated district.
+fn keeps_leaves(case: &Case, replica: u16) -> bool {
+    match case.expect {
+        Expect::Honest(honest) if case.name.starts_with("district") => {
+            honest & mask_of(&[replica]) != 0
+        }
+        _ => !case.name.starts_with("leaves: "),
+    }
+}
+
+/// How often each number came up in a set; among the cases that are drawn each way in which two
+/// requests differ; and how many rows had each rule.
+struct Counts {
+    numbers: [usize; 16],
+    requests: [usize; 5],
+    rules: [usize; 6],
+}
+
+/// Runs the set.
+fn counts(seed: u64, size: Size) -> Counts {
     let mut requests = [0; 5];
+    let mut rules = [0; 6];
     let mut verdicts = Verdicts::default();
     let mut counts = [0; 16];
     let mut broken = Vec::new();
@@ -91,11 +110,12 @@ fn counts(seed: u64, size: Size) -> ([usize; 16], [usize; 5]) {
                     *count += usize::from(found);
                 }
             }
-            if !case.name.starts_with("leaves: ") {
-                let signatures = signatures(case, &two);
-                signed += signatures.len();
-                let shared = leaves_shared(&signatures);
-                broken.extend(shared.map(|why| format!("{}: {why}", case.name)));
+            let mut signatures = signatures(case, &two);
+            signatures.retain(|(replica, ..)| keeps_leaves(case, *replica));
+            signed += signatures.len();
+            broken.extend(leaves_shared(&signatures).map(|why| format!("{}: {why}", case.name)));
+            for charge in found.rows.iter().flatten() {
+                rules[charge.rule as usize] += 1;
             }
         }
         verdicts.asked = asked;
@@ -117,23 +137,26 @@ fn counts(seed: u64, size: Size) -> ([usize; 16], [usize; 5]) {
         println!("number {number}: {count}");
     }
     println!("two requests, drawn: {requests:?}");
-    (counts, requests)
+    println!("rows by rule: {rules:?}");
+    Counts { numbers: counts, requests, rules }
 }
 
 #[test]
 fn full_set() {
-    let (counts, requests) = counts(1, Size::Full);
-    assert!(counts.iter().sum::<usize>() >= 5000);
-    assert!(counts.iter().all(|count| *count >= 20));
+    let Counts { numbers, requests, rules } = counts(1, Size::Full);
+    assert!(numbers.iter().sum::<usize>() >= 5000);
+    assert!(numbers.iter().all(|count| *count >= 20));
     assert!(requests.iter().all(|count| *count >= 40));
+    assert!(rules[1..].iter().all(|count| *count >= 100));
 }
 
 #[test]
 fn small_set() {
-    let (counts, requests) = counts(2, Size::Small);
-    assert!(counts.iter().sum::<usize>() >= 500);
-    assert!(counts.iter().all(|count| *count >= 1));
+    let Counts { numbers, requests, rules } = counts(2, Size::Small);
+    assert!(numbers.iter().sum::<usize>() >= 500);
+    assert!(numbers.iter().all(|count| *count >= 1));
     assert!(requests.iter().all(|count| *count >= 3));
+    assert!(rules[1..].iter().all(|count| *count >= 20));
 }
 
 /// One leaf for two messages, and two signatures of one message, are noticed; the same signature in

@@ -1,53 +1,34 @@
 //! The premises of fairness (demand 3), asked of a replica's list of acts and of submissions, two
-//! or more, in document 01's words, with document 02's W4.
+//! or more, in document 01's words, with document 02's W4 and W5.
 
 use super::replica::{Act, Replica};
-use crate::bytes::u32_at;
-use crate::leaves::Leaves;
 use crate::roster::Name;
 use crate::sha256::sha256;
-use crate::statement::{self, chain_string, pointers, Record};
+use crate::statement::{chain_string, pointers, Record};
 use crate::submission::Submission;
 use crate::verdicts::Verdicts;
 use std::collections::HashMap;
 
-/// What a list of acts signs, each statement with its leaf, and the logs held on the way.
+/// What a list of acts signs, by the leaf that signed it, and the logs held on the way.
 pub struct Past {
-    signed: Leaves<Vec<u8>>,
+    signed: HashMap<u32, Vec<u8>>,
     held: Vec<Vec<Record>>,
 }
 
 impl Past {
     /// The acts of one of n replicas, each on the state that the one before left; nothing if one of
-    /// them breaks a board rule.
+    /// them breaks a board rule, among them one leaf, one message.
     pub fn of(acts: &[Act], n: usize, name: &Name) -> Option<Past> {
         let mut replica = Replica::new(0);
-        let mut past = Past { signed: Leaves::default(), held: vec![Vec::new()] };
+        let mut held = vec![Vec::new()];
         for act in acts {
-            let kept = match act {
-                Act::Raise(term) => replica.raise(*term),
-                Act::Vote(vote) => {
-                    past.sign(replica.vote(vote, n).then(|| statement::vote(name, vote)))
-                }
-                Act::Take(keep, run) => replica.take(*keep, run),
-                Act::Add(record) => replica.add(*record),
-                Act::Stamp => past.sign(replica.stamp().map(|at| statement::stamp(name, &at))),
-                Act::Receipt(index) => {
-                    past.sign(replica.receipt(*index).map(|at| statement::receipt(name, &at)))
-                }
-                Act::Decline | Act::Restart => true,
-            };
-            if !kept {
+            if !replica.act(act, n) {
                 return None;
             }
-            past.held.push(replica.log.clone());
+            held.push(replica.log.clone());
         }
-        Some(past)
-    }
-
-    /// The statement, if the act is allowed, takes the next leaf, unless it has one.
-    fn sign(&mut self, statement: Option<Vec<u8>>) -> bool {
-        statement.map(|statement| self.signed.of(statement)).is_some()
+        let signed = replica.used.iter().map(|(leaf, said)| (*leaf, said.bytes(name))).collect();
+        Some(Past { signed, held })
     }
 
     /// How many signatures of the submissions are good under the replica's key; nothing if one of
@@ -61,8 +42,8 @@ impl Past {
     ) -> Option<usize> {
         let mut own = 0;
         for slot in submissions.iter().flat_map(|submission| submission.slots(name)) {
-            if verdicts.good(key, &slot.statement, slot.signature) {
-                if self.signed.known(&slot.statement) != Some(u32_at(slot.signature, 0)) {
+            if let Some(leaf) = verdicts.leaf(key, &slot.statement, slot.signature) {
+                if self.signed.get(&leaf) != Some(&slot.statement) {
                     return None;
                 }
                 own += 1;
@@ -92,6 +73,7 @@ mod tests {
     use super::*;
     use crate::build::log;
     use crate::cluster::{Cluster, Keys};
+    use crate::leaves::Leaves;
     use crate::roster::Roster;
     use crate::signer::Signer;
     use crate::statement::Vote;
@@ -104,8 +86,13 @@ mod tests {
         let signer = Signer::new(cluster);
         let draft = signer.submission(&records, &[(1, 0b011)], Some((1, 0b101)));
         let vote = draft.leaders[0].vote;
-        let acts =
-            [Act::Vote(vote), Act::Add(records[0]), Act::Stamp, Act::Restart, Act::Receipt(1)];
+        let acts = [
+            Act::Vote(0, vote),
+            Act::Add(records[0]),
+            Act::Stamp(1),
+            Act::Restart,
+            Act::Receipt(2, 1),
+        ];
         let past = Past::of(&acts, 3, &roster.name).expect("the acts keep the rules");
         let read = Submission::read(roster, &draft.bytes(), &mut Verdicts::default());
         (past, read.expect("the submission is accepted"))
@@ -124,7 +111,8 @@ mod tests {
         assert!(past.strings_apart(&two));
     }
 
-    /// The same statements in another order have other leaves; a restart changes nothing.
+    /// The same statements by other leaves do not meet them; a restart changes nothing, nor does a
+    /// statement that another leaf has signed besides.
     #[test]
     fn other_leaves() {
         let cluster = Keys::new("premises").cluster_from_0(3, 5, 4);
@@ -136,10 +124,28 @@ mod tests {
             let past = Past::of(acts, 3, &roster.name).expect("the acts keep the rules");
             past.own_signatures(roster.key(1), &roster.name, &two, &mut verdicts)
         };
-        let begun = [Act::Vote(vote), Act::Restart, Act::Vote(vote), Act::Add(record)];
+        let begun = [Act::Vote(0, vote), Act::Restart, Act::Vote(0, vote), Act::Add(record)];
         let with = |more: [Act; 3]| [&begun[..], &more].concat();
-        assert_eq!(own(&with([Act::Stamp, Act::Stamp, Act::Receipt(1)])), Some(6));
-        assert_eq!(own(&with([Act::Receipt(1), Act::Restart, Act::Stamp])), None);
+        assert_eq!(own(&with([Act::Stamp(1), Act::Stamp(1), Act::Receipt(2, 1)])), Some(6));
+        assert_eq!(own(&with([Act::Stamp(1), Act::Stamp(9), Act::Receipt(2, 1)])), Some(6));
+        assert_eq!(own(&with([Act::Receipt(2, 1), Act::Restart, Act::Stamp(1)])), Some(6));
+        assert_eq!(own(&with([Act::Receipt(1, 1), Act::Restart, Act::Stamp(2)])), None);
+        assert_eq!(own(&with([Act::Stamp(1), Act::Stamp(2), Act::Receipt(3, 1)])), None);
+        assert_eq!(own(&with([Act::Stamp(1), Act::Restart, Act::Decline])), None, "no receipt");
+    }
+
+    /// One leaf for two messages, in whatever order and through a restart, breaks a board rule.
+    #[test]
+    fn one_leaf() {
+        let records = log(&[(1, "a"), (1, "b")]);
+        let kept = |acts: &[Act]| Past::of(acts, 3, &[7; 16]).is_some();
+        let begun = [Act::Raise(1), Act::Add(records[0]), Act::Stamp(4)];
+        let with = |more: &[Act]| kept(&[&begun, more].concat());
+        assert!(with(&[Act::Stamp(4), Act::Restart, Act::Stamp(4), Act::Receipt(5, 1)]));
+        assert!(!with(&[Act::Receipt(4, 1)]) && !with(&[Act::Restart, Act::Receipt(4, 1)]));
+        assert!(!with(&[Act::Add(records[1]), Act::Stamp(4)]));
+        assert!(with(&[Act::Add(records[1]), Act::Stamp(5), Act::Receipt(3, 1)]));
+        assert!(!with(&[Act::Receipt(5, 1), Act::Add(records[1]), Act::Receipt(5, 2)]));
     }
 
     /// A statement that the list does not have; an act that breaks a rule.
@@ -152,7 +158,7 @@ mod tests {
         let (two, mut verdicts) = ([&submission, &submission], Verdicts::default());
         assert_eq!(past.own_signatures(roster.key(1), &roster.name, &two, &mut verdicts), None);
         assert!(Past::of(&[Act::Raise(2), Act::Raise(1)], 3, &roster.name).is_none());
-        assert!(Past::of(&[Act::Raise(1), Act::Stamp], 3, &roster.name).is_none());
+        assert!(Past::of(&[Act::Raise(1), Act::Stamp(0)], 3, &roster.name).is_none());
     }
 
     /// Votes of one term are for one request, as often as it is given; another one in the same
@@ -160,7 +166,9 @@ mod tests {
     #[test]
     fn one_request() {
         let kept = |votes: &[Vote]| {
-            let acts: Vec<Act> = votes.iter().map(|vote| Act::Vote(*vote)).collect();
+            let mut leaves = Leaves::default();
+            let acts: Vec<Act> =
+                votes.iter().map(|vote| Act::Vote(leaves.of(*vote), *vote)).collect();
             Past::of(&acts, 3, &[7; 16]).is_some()
         };
         let vote =

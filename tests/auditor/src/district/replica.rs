@@ -1,8 +1,9 @@
 //! A replica (document 01's board): its state, and its acts by the board rules, of which that on
-//! votes is document 02's, W4. A cheat leaves out some of the rules.
+//! votes is document 02's, W4, and that on leaves W5. A cheat leaves out some of the rules.
 
 use crate::audit::is_staler;
-use crate::statement::{pointers, Position, Record, Vote};
+use crate::statement::{pointers, Position, Record, Statement, Vote};
+use std::collections::BTreeMap;
 
 /// The rules that a replica does not keep.
 #[derive(Clone, Copy, Debug, Default, PartialEq)]
@@ -17,17 +18,19 @@ pub struct Cheats {
     pub rewrites: bool,
     /// It loses its log when it votes.
     pub forgets: bool,
+    /// It signs with leaves that have signed another message.
+    pub reuses_leaves: bool,
 }
 
-/// What a replica may do.
+/// What a replica may do. An act that signs begins with the number of its leaf.
 #[derive(Clone, Debug, PartialEq)]
 pub enum Act {
     Raise(u32),
-    Vote(Vote),
+    Vote(u32, Vote),
     Take(usize, Vec<Record>),
     Add(Record),
-    Stamp,
-    Receipt(usize),
+    Stamp(u32),
+    Receipt(u32, usize),
     Decline,
     Restart,
 }
@@ -41,6 +44,8 @@ pub struct Replica {
     /// The last stamp's term.
     pub last_stamp: Option<u32>,
     pub log: Vec<Record>,
+    /// The leaves used, each with what it has signed.
+    pub used: BTreeMap<u32, Statement>,
     pub cheats: Cheats,
     /// What it has done so far, but for declining, which changes nothing.
     pub acts: Vec<Act>,
@@ -54,6 +59,7 @@ impl Replica {
             last_vote: None,
             last_stamp: None,
             log: Vec::new(),
+            used: BTreeMap::new(),
             cheats: Cheats::default(),
             acts: Vec::new(),
         }
@@ -68,11 +74,11 @@ impl Replica {
     pub fn act(&mut self, act: &Act, n: usize) -> bool {
         match act {
             Act::Raise(term) => self.raise(*term),
-            Act::Vote(vote) => self.vote(vote, n),
+            Act::Vote(leaf, vote) => self.vote(*leaf, vote, n),
             Act::Take(keep, run) => self.take(*keep, run),
             Act::Add(record) => self.add(*record),
-            Act::Stamp => self.stamp().is_some(),
-            Act::Receipt(index) => self.receipt(*index).is_some(),
+            Act::Stamp(leaf) => self.stamp(*leaf).is_some(),
+            Act::Receipt(leaf, index) => self.receipt(*leaf, *index).is_some(),
             Act::Decline => true,
             Act::Restart => {
                 self.restart();
@@ -97,11 +103,13 @@ impl Replica {
     }
 
     /// Votes, if it may: in one term again only for the very same request.
-    pub fn vote(&mut self, vote: &Vote, n: usize) -> bool {
+    pub fn vote(&mut self, leaf: u32, vote: &Vote, n: usize) -> bool {
         let twice = self.last_vote.is_some_and(|last| last.term == vote.term && last != *vote);
+        let statement = Statement::Vote(*vote);
         if vote.term < self.term
             || !(1..=n).contains(&(vote.candidate as usize))
             || (twice && !self.cheats.votes_twice)
+            || !self.may_use(leaf, &statement)
         {
             return false;
         }
@@ -114,7 +122,8 @@ impl Replica {
         }
         self.term = vote.term;
         self.last_vote = Some(*vote);
-        self.acts.push(Act::Vote(*vote));
+        self.used.insert(leaf, statement);
+        self.acts.push(Act::Vote(leaf, *vote));
         true
     }
 
@@ -151,18 +160,40 @@ impl Replica {
     }
 
     /// Stamps its last record, if it may.
-    pub fn stamp(&mut self) -> Option<Position> {
-        let at = self.own_record(self.log.len())?;
+    pub fn stamp(&mut self, leaf: u32) -> Option<Position> {
+        let at = self.last_own_record()?;
+        self.sign(leaf, Statement::Stamp(at))?;
         self.last_stamp = Some(self.term);
-        self.acts.push(Act::Stamp);
+        self.acts.push(Act::Stamp(leaf));
         Some(at)
     }
 
     /// Gives a receipt for a record of its log, if it may.
-    pub fn receipt(&mut self, index: usize) -> Option<Position> {
+    pub fn receipt(&mut self, leaf: u32, index: usize) -> Option<Position> {
         let at = self.own_record(index)?;
-        self.acts.push(Act::Receipt(index));
+        self.sign(leaf, Statement::Receipt(at))?;
+        self.acts.push(Act::Receipt(leaf, index));
         Some(at)
+    }
+
+    /// One leaf, one message, over all of its acts: whether a leaf may sign the statement.
+    fn may_use(&self, leaf: u32, statement: &Statement) -> bool {
+        let other = self.used.get(&leaf).is_some_and(|used| used != statement);
+        !other || self.cheats.reuses_leaves
+    }
+
+    /// Keeps the leaf with what it signs, if it may sign that.
+    fn sign(&mut self, leaf: u32, statement: Statement) -> Option<()> {
+        if !self.may_use(leaf, &statement) {
+            return None;
+        }
+        self.used.insert(leaf, statement);
+        Some(())
+    }
+
+    /// The last record, if there is one and it has the replica's own term.
+    pub fn last_own_record(&self) -> Option<Position> {
+        self.own_record(self.log.len())
     }
 
     /// The record at an index, if there is one and it has the replica's own term.
@@ -204,15 +235,15 @@ mod tests {
     /// Each rule on votes, kept where a cheat is not allowed it.
     #[test]
     fn votes() {
-        let may = |vote: &Vote| in_term_3().vote(vote, 3);
+        let may = |vote: &Vote| in_term_3().vote(0, vote, 3);
         assert!(may(&vote(2, 3, (3, 2))) && may(&vote(2, 9, (3, 2))));
         assert!(may(&vote(2, 5, (4, 1))) && may(&vote(2, 5, (3, 7))));
         assert!(!may(&vote(2, 2, (3, 2))), "its term falls");
         assert!(!may(&vote(2, 5, (3, 1))) && !may(&vote(2, 5, (2, 9))), "a staler log");
         assert!(!may(&vote(0, 5, (3, 2))) && !may(&vote(4, 5, (3, 2))), "no such candidate");
         let mut replica = in_term_3();
-        assert!(replica.vote(&vote(2, 5, (3, 2)), 3) && replica.term == 5);
-        assert!(replica.vote(&vote(2, 5, (3, 2)), 3), "the same vote again");
+        assert!(replica.vote(0, &vote(2, 5, (3, 2)), 3) && replica.term == 5);
+        assert!(replica.vote(0, &vote(2, 5, (3, 2)), 3), "the same vote again");
         let same = vote(2, 5, (3, 2));
         let others = [
             vote(3, 5, (3, 2)),
@@ -221,15 +252,15 @@ mod tests {
             Vote { last_pointer: [1; 32], ..same },
         ];
         for other in &others {
-            assert!(!replica.vote(other, 3) && replica.last_vote == Some(same), "{other:?}");
+            assert!(!replica.vote(1, other, 3) && replica.last_vote == Some(same), "{other:?}");
         }
-        assert!(replica.vote(&same, 3), "the same vote, after others were refused");
+        assert!(replica.vote(0, &same, 3), "the same vote, after others were refused");
         replica.cheats.votes_twice = true;
-        for other in &others {
-            assert!(replica.vote(other, 3) && replica.last_vote == Some(*other), "a cheat");
+        for (leaf, other) in (1..).zip(&others) {
+            assert!(replica.vote(leaf, other, 3) && replica.last_vote == Some(*other), "a cheat");
         }
         replica.cheats.votes_twice = false;
-        assert!(replica.vote(&vote(1, 6, (9, 1)), 3), "another request, in a later term");
+        assert!(replica.vote(5, &vote(1, 6, (9, 1)), 3), "another request, in a later term");
     }
 
     /// Each rule on taking a run.
@@ -244,9 +275,9 @@ mod tests {
         assert!(!may(0, &[record(0), record(3)]), "term 0");
         assert!(!may(0, &[record(2), record(1), record(3)]), "terms that fall");
         let mut replica = in_term_3();
-        assert!(replica.stamp().is_some());
+        assert!(replica.stamp(0).is_some());
         assert!(!replica.take(2, &[record(3)]), "it has stamped in this term");
-        assert!(replica.add(record(3)) && replica.stamp().is_some());
+        assert!(replica.add(record(3)) && replica.stamp(1).is_some());
         assert!(replica.raise(4) && replica.take(2, &[record(4)]), "not in the next");
     }
 
@@ -254,13 +285,38 @@ mod tests {
     #[test]
     fn stamps_and_receipts() {
         let mut replica = in_term_3();
-        assert!(replica.receipt(1).is_none() && replica.receipt(0).is_none());
-        assert!(replica.receipt(3).is_none());
-        let at = replica.receipt(2).expect("a record of its own term");
+        assert!(replica.receipt(0, 1).is_none() && replica.receipt(0, 0).is_none());
+        assert!(replica.receipt(0, 3).is_none());
+        let at = replica.receipt(0, 2).expect("a record of its own term");
         assert_eq!((at.term, at.index, at.pointer), (3, 2, pointers(&replica.log)[2]));
-        assert_eq!(replica.stamp(), Some(at));
+        assert_eq!(replica.stamp(1), Some(at));
         assert!(!replica.raise(2) && replica.raise(4));
-        assert!(replica.stamp().is_none() && replica.receipt(2).is_none());
+        assert!(replica.stamp(2).is_none() && replica.receipt(2, 2).is_none());
+        assert_eq!(replica.used.len(), 2, "a refused act uses no leaf");
+    }
+
+    /// One leaf, one message, whatever is signed and however often; a restart changes nothing.
+    #[test]
+    fn leaves() {
+        let mut replica = in_term_3();
+        let (own, later) = (vote(2, 3, (3, 2)), vote(2, 4, (3, 3)));
+        let at = replica.receipt(7, 2);
+        assert!(at.is_some() && replica.receipt(7, 2) == at, "the same again");
+        assert_eq!(replica.receipt(0, 2), at, "the same by another leaf");
+        assert_eq!(replica.stamp(7), None, "another kind, for the same record");
+        assert!(replica.last_stamp.is_none() && !replica.vote(7, &own, 3));
+        assert!(replica.vote(8, &own, 3) && replica.stamp(9).is_some());
+        replica.restart();
+        assert!(replica.add(record(3)));
+        assert_eq!(replica.receipt(7, 3), None, "another record");
+        assert_eq!(replica.receipt(9, 2), None, "the stamp's");
+        assert_eq!(replica.stamp(9), None, "the last record is another one now");
+        assert!(!replica.vote(8, &later, 3) && replica.term == 3);
+        let used = replica.used.clone();
+        assert_eq!(used.keys().collect::<Vec<_>>(), [&0, &7, &8, &9]);
+        replica.cheats.reuses_leaves = true;
+        assert!(replica.receipt(7, 3).is_some() && replica.stamp(9).is_some());
+        assert!(replica.vote(8, &later, 3), "a cheat");
     }
 
     /// Records are added in its own term only, and never in term 0.
@@ -277,11 +333,11 @@ mod tests {
     fn acts() {
         let may = |act: Act| in_term_3().act(&act, 3);
         assert!(may(Act::Raise(3)) && !may(Act::Raise(2)));
-        assert!(may(Act::Vote(vote(3, 3, (3, 2)))) && !may(Act::Vote(vote(4, 3, (3, 2)))));
+        assert!(may(Act::Vote(0, vote(3, 3, (3, 2)))) && !may(Act::Vote(0, vote(4, 3, (3, 2)))));
         assert!(may(Act::Take(1, vec![record(3)])) && !may(Act::Take(0, vec![record(3)])));
         assert!(may(Act::Add(record(3))) && !may(Act::Add(record(1))));
-        assert!(may(Act::Stamp) && !Replica::new(1).act(&Act::Stamp, 3));
-        assert!(may(Act::Receipt(2)) && !may(Act::Receipt(1)));
+        assert!(may(Act::Stamp(0)) && !Replica::new(1).act(&Act::Stamp(0), 3));
+        assert!(may(Act::Receipt(0, 2)) && !may(Act::Receipt(0, 1)));
         assert!(may(Act::Decline) && may(Act::Restart));
     }
 }

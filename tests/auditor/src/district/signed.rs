@@ -22,24 +22,40 @@ pub struct Signed {
 }
 
 impl Signed {
-    pub fn vote(&mut self, replica: u16, vote: Vote) {
+    pub fn vote(&mut self, replica: u16, leaf: u32, vote: Vote) {
         let votes = self.votes.entry((vote.term, vote.last_index, vote.last_pointer)).or_default();
         votes.entry(vote.candidate).or_insert((vote, 0)).1 |= mask_of(&[replica]);
-        self.take_leaf(replica, Statement::Vote(vote));
+        self.put_leaf(replica, leaf, Statement::Vote(vote));
     }
 
-    pub fn stamp(&mut self, replica: u16, at: Position) {
+    pub fn stamp(&mut self, replica: u16, leaf: u32, at: Position) {
         *self.stamps.entry(key(&at)).or_default() |= mask_of(&[replica]);
-        self.take_leaf(replica, Statement::Stamp(at));
+        self.put_leaf(replica, leaf, Statement::Stamp(at));
     }
 
-    pub fn receipt(&mut self, replica: u16, at: Position) {
+    pub fn receipt(&mut self, replica: u16, leaf: u32, at: Position) {
         *self.receipts.entry(key(&at)).or_default() |= mask_of(&[replica]);
-        self.take_leaf(replica, Statement::Receipt(at));
+        self.put_leaf(replica, leaf, Statement::Receipt(at));
     }
 
-    fn take_leaf(&mut self, replica: u16, statement: Statement) {
-        self.leaves.entry(replica).or_default().of(statement);
+    fn put_leaf(&mut self, replica: u16, leaf: u32, statement: Statement) {
+        self.leaves.entry(replica).or_default().put(statement, leaf);
+    }
+
+    /// The leaf for a statement of a replica: the one it has, or the next. Who reuses leaves takes
+    /// for every fourth message one that is used.
+    pub fn leaf_for(&self, replica: u16, statement: &Statement, reuses: bool) -> u32 {
+        let Some(leaves) = self.leaves.get(&replica) else {
+            return 0;
+        };
+        let used = reuses && leaves.messages() % 4 == 3;
+        let other = if used { leaves.count() / 2 } else { leaves.count() };
+        leaves.known(statement).unwrap_or(other)
+    }
+
+    /// The leaf by which a replica has signed a statement, if it has.
+    pub fn leaf(&self, replica: u16, statement: &Statement) -> Option<u32> {
+        self.leaves.get(&replica)?.known(statement)
     }
 
     /// The leaves that a replica has used.

@@ -32,7 +32,7 @@ enum Place {
 use Place::{Both, Empty, Kept, NoBoth, NoOne, NoOther, One, Other};
 
 /// Lists, and whether the replica is named.
-const LISTS: [(&[Place], bool); 25] = [
+const LISTS: [(&[Place], bool); 23] = [
     // In two accepted submissions.
     (&[One, Other], true),
     (&[Other, One], true),
@@ -55,8 +55,6 @@ const LISTS: [(&[Place], bool); 25] = [
     (&[NoOther, Both, NoOne], false),
     (&[NoBoth, NoBoth, NoBoth, NoBoth, Both, NoBoth, NoBoth, NoBoth, NoBoth], false),
     // One of the two messages, or both, in refused ones alone.
-    (&[One, NoOther], false),
-    (&[One, NoOther, Empty], false),
     (&[NoOne, Kept, Other], false),
     (&[One, NoBoth, One, NoOther], false),
     (&[NoBoth, Kept, Empty, NoBoth], false),
@@ -92,6 +90,7 @@ impl Cases<'_> {
                 self.leaf_in(list, n, replica, named);
             }
         }
+        self.leaf_in_refused();
         self.leaf_among_nine();
         self.leaves_of_two();
         self.leaf_beside_fork();
@@ -121,6 +120,21 @@ impl Cases<'_> {
         let named = if named { mask_of(&[replica]) } else { 0 };
         let name = format!("leaves: replica {replica} of {n} in {list:?}");
         self.run(&name, &signer.roster(), &submissions, found(&numbers, named, (0, 0)));
+    }
+
+    /// One of the two messages in a submission that is refused by a number that leaves its parts as
+    /// they are: all its signatures, or all but one, are good. Alone, and beside an empty log.
+    fn leaf_in_refused(&mut self) {
+        for number in [6, 7, 13, 15] {
+            let signer = self.signer(3);
+            let Reused { one, other, .. } = Reused::new(&signer, 2);
+            let mut list = vec![one.bytes(), refused(&signer, &other, number)];
+            let name = format!("leaves: the other message refused by {number}");
+            self.run(&name, &signer.roster(), &list, found(&[0, number], 0, (0, 0)));
+            list.push(empty(&signer).bytes());
+            let name = format!("{name}, and an empty one");
+            self.run(&name, &signer.roster(), &list, found(&[0, number, 0], 0, (0, 0)));
+        }
     }
 
     /// The two messages at every two of nine places, among accepted submissions that do no wrong.

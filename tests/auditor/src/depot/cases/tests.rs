@@ -4,7 +4,7 @@
 use super::*;
 use crate::cases::tests::leaves_shared;
 use crate::depot::{district, end_to_end, findings};
-use crate::roster::Roster;
+use crate::roster::{mask_of, Roster};
 use crate::submission::Submission;
 use crate::verdicts::Verdicts;
 use std::collections::BTreeMap;
@@ -27,9 +27,19 @@ fn leaves_broken(case: &Case, found: &Findings, verdicts: &mut Verdicts) -> Opti
     for (bytes, _) in submissions.iter().zip(&found.numbers).filter(|(_, number)| **number == 0) {
         let read = Submission::read(&roster, bytes, verdicts).expect("it is accepted");
         let slots = read.slots(&roster.name).into_iter();
-        signatures.extend(slots.map(|s| (s.replica, s.statement, s.signature.to_vec())));
+        let kept = slots.filter(|slot| keeps_leaves(case, slot.replica));
+        signatures.extend(kept.map(|s| (s.replica, s.statement, s.signature.to_vec())));
     }
     leaves_shared(&signatures)
+}
+
+/// Whether the replica's leaves have one message each in the case: not where that is what the case
+/// is made for, nor for the cheats of a simulated district.
+fn keeps_leaves(case: &Case, replica: u16) -> bool {
+    match &case.expect {
+        Expect::Honest(_, honest) => honest & mask_of(&[replica]) != 0,
+        _ => !case.name.starts_with("leaves: "),
+    }
 }
 
 fn tally(seed: u64, size: Size) -> Tally {
@@ -53,9 +63,7 @@ fn tally(seed: u64, size: Size) -> Tally {
             }
             tally.forks += usize::from(found.fork != (0, 0));
             tally.named += usize::from(found.fork == (0, 0) && found.named != 0);
-            if !case.name.starts_with("leaves: ") {
-                why.push(leaves_broken(case, found, &mut verdicts));
-            }
+            why.push(leaves_broken(case, found, &mut verdicts));
         }
         verdicts.asked = asked;
         broken.extend(why.into_iter().flatten().map(|why| format!("{}: {why}", case.name)));

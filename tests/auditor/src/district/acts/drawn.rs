@@ -1,6 +1,6 @@
 //! Examples that are drawn: acts near what is allowed, on states that a replica came to.
 
-use super::{Act, Example, Group, Replica, State};
+use super::{Act, Example, Group, Message, State};
 use crate::random::Random;
 use crate::statement::{Record, Vote};
 
@@ -23,16 +23,18 @@ pub fn add_to(group: &mut Group, kind: Kind, count: usize, random: &mut Random) 
 }
 
 /// A state with some records that acts lead to; now and then with another term, as no acts may
-/// lead to.
+/// lead to. Of the leaves used one that has signed a vote is kept, if there is one.
 fn state(n: usize, random: &mut Random) -> State {
     let kinds: [Kind; 9] = [raise, vote, run, run, add, add, add, stamp, receipt];
-    let length = 1 + random.below(4);
-    let mut replica = Replica::new(1);
-    while replica.log.len() < length {
-        let act = kinds[random.below(kinds.len())](n, &State::of(&replica), random);
-        replica.act(&act, n);
+    let length = 1 + random.below(3);
+    let mut state = State::default();
+    while state.log.len() < length {
+        let act = kinds[random.below(kinds.len())](n, &state, random);
+        let example = Example::new(n, state, act);
+        state = example.after.unwrap_or(example.state);
     }
-    let mut state = State::of(&replica);
+    state.used.retain(|(_, message)| matches!(message, Message::Vote(_)));
+    state.used.truncate(1);
     if random.below(5) == 0 {
         state.term = near(state.term, random);
     }
@@ -49,18 +51,20 @@ pub fn vote(n: usize, state: &State, random: &mut Random) -> Act {
     let (last_term, last_index) = state.replica().end();
     let drawn = random.below(n + 2) as u16;
     let term = near(state.term, random);
+    let leaf = leaf(state, random);
     let candidate = match state.last_vote {
-        Some(last) if random.below(3) == 0 => return Act::Vote(Vote { term, ..last }),
+        Some(last) if random.below(3) == 0 => return Act::Vote(leaf, Vote { term, ..last }),
         Some(last) if random.below(3) > 0 => last.candidate,
         _ => drawn,
     };
-    Act::Vote(Vote {
+    let vote = Vote {
         candidate,
         term,
         last_term: near(last_term, random),
         last_index: near(last_index, random),
         last_pointer: digest(random),
-    })
+    };
+    Act::Vote(leaf, vote)
 }
 
 /// A run of up to three records; in most of them the terms rise to the replica's own.
@@ -81,12 +85,21 @@ pub fn add(_: usize, state: &State, random: &mut Random) -> Act {
     Act::Add(record(near(state.term, random), random))
 }
 
-pub fn stamp(_: usize, _: &State, _: &mut Random) -> Act {
-    Act::Stamp
+pub fn stamp(_: usize, state: &State, random: &mut Random) -> Act {
+    Act::Stamp(leaf(state, random))
 }
 
 pub fn receipt(_: usize, state: &State, random: &mut Random) -> Act {
-    Act::Receipt(random.below(state.log.len() + 2))
+    Act::Receipt(leaf(state, random), random.below(state.log.len() + 2))
+}
+
+/// A leaf that is not used, or now and then one that is.
+fn leaf(state: &State, random: &mut Random) -> u32 {
+    let used = || state.used.iter().map(|(leaf, _)| *leaf);
+    match used().next() {
+        Some(last) if random.below(4) == 0 => last,
+        _ => used().max().map_or(0, |leaf| leaf + 1 + random.below(3) as u32),
+    }
 }
 
 /// A number from one below to two above.

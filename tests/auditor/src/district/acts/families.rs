@@ -55,14 +55,14 @@ fn votes() -> Group {
 fn vote_terms(group: &mut Group, n: usize, state: &State) {
     let candidate = state.last_vote.map_or(1, |last| last.candidate);
     let terms = [state.term.checked_sub(1), Some(state.term), state.term.checked_add(1)];
-    let vote = |term| Act::Vote(ballot(candidate, term, end(state)));
+    let vote = |term| by_own_leaf(ballot(candidate, term, end(state)));
     group.on(n, state, terms.into_iter().flatten().map(vote));
 }
 
 /// For the lowest and the highest candidate and those beyond.
 fn vote_candidates(group: &mut Group, n: usize, state: &State) {
     let candidates = [0, 1, n as u16, n as u16 + 1];
-    let vote = |candidate| Act::Vote(ballot(candidate, state.term, end(state)));
+    let vote = |candidate| by_own_leaf(ballot(candidate, state.term, end(state)));
     group.on(n, state, candidates.map(vote));
 }
 
@@ -77,9 +77,9 @@ fn second_votes(group: &mut Group, n: usize, state: &State) {
     for term in [state.term, state.term + 1] {
         let same = Vote { term, ..voted };
         let all = Vote { last_pointer: digest(52), ..ballot(3, term, (last_term + 2, 10)) };
-        group.on(n, &state, [same, all].map(Act::Vote));
+        group.on(n, &state, [same, all].map(by_own_leaf));
     }
-    group.on(n, &state, one_field_other(voted).map(Act::Vote));
+    group.on(n, &state, one_field_other(voted).map(by_own_leaf));
 }
 
 /// The vote with one field of its request lower by one, and higher, each of the four in turn.
@@ -105,7 +105,7 @@ fn first_votes(group: &mut Group, n: usize, state: &State) {
         let (term, (last_term, last_index)) = (state.term, end(state));
         let last = Some(ballot(2, term - 1, (last_term, last_index)));
         let state = State { last_vote: last, ..state.clone() };
-        let vote = |candidate, end| Act::Vote(ballot(candidate, term, end));
+        let vote = |candidate, end| by_own_leaf(ballot(candidate, term, end));
         let (same, longer) = ((last_term, last_index), (last_term, last_index + 1));
         group.on(n, &state, [vote(2, same), vote(2, longer), vote(3, same)]);
     }
@@ -125,13 +125,13 @@ fn vote_ends(group: &mut Group, n: usize, state: &State) {
         // Above the vote's own term, which no rule forbids.
         (TOP, 1),
     ];
-    let vote = |end| Act::Vote(ballot(candidate, vote_term, end));
+    let vote = |end| by_own_leaf(ballot(candidate, vote_term, end));
     group.on(n, state, ends.map(vote));
 }
 
 /// After a stamp, in the highest term, and on states that no acts lead to.
 fn odd_votes(group: &mut Group) {
-    let vote = |candidate, term, end| Act::Vote(ballot(candidate, term, end));
+    let vote = |candidate, term, end| by_own_leaf(ballot(candidate, term, end));
     // After a stamp in this term. The candidate of the last vote may not ask again with the log
     // that it has now; and the last vote itself is for a log that is staler by now.
     let stamped = state(3, Some(ballot(1, 3, (1, 1))), Some(3), &[1, 3]);
@@ -282,7 +282,7 @@ fn stamps() -> Group {
         (9, state(TOP - 1, None, Some(1), &[1, TOP - 1])),
     ];
     for (n, state) in &states {
-        group.on(*n, state, [Act::Stamp]);
+        group.on(*n, state, [Act::Stamp(*n as u32)]);
     }
     group
 }
@@ -290,7 +290,7 @@ fn stamps() -> Group {
 fn receipts() -> Group {
     let mut group = Group::new("receipts", "receipts: at each place of a log, in and out of term");
     let mut on = |n, state: &State, indexes: &[usize]| {
-        group.on(n, state, indexes.iter().map(|index| Act::Receipt(*index)))
+        group.on(n, state, indexes.iter().map(|index| Act::Receipt(9 - *index as u32, *index)))
     };
     on(3, &State::default(), &[0, 1]);
     on(4, &state(3, None, None, &[1, 3, 3]), &[0, 1, 2, 3, 4]);
@@ -328,7 +328,12 @@ fn run(keep: usize, terms: &[u32]) -> Act {
 }
 
 pub fn state(term: u32, last_vote: Option<Vote>, last_stamp: Option<u32>, terms: &[u32]) -> State {
-    State { term, last_vote, last_stamp, log: records(0, terms) }
+    State { term, last_vote, last_stamp, log: records(0, terms), used: Vec::new() }
+}
+
+/// A vote by a leaf that has signed nothing else.
+pub fn by_own_leaf(vote: Vote) -> Act {
+    Act::Vote(u32::from(vote.candidate), vote)
 }
 
 /// The term and the index of the last record.
@@ -349,7 +354,7 @@ pub fn record(term: u32, byte: u8) -> Record {
     Record { term, payload: digest(byte) }
 }
 
-fn digest(byte: u8) -> Digest {
+pub fn digest(byte: u8) -> Digest {
     let mut digest = [0; 32];
     digest[0] = byte;
     digest

@@ -1,7 +1,8 @@
-//! Acts of every kind on logs of every length up to 6: a log all of the replica's own term, and one
-//! whose last record alone is. The last vote and the last stamp change from length to length.
+//! Acts of every kind on logs of every length up to 6, all of the replica's own term; and on logs
+//! whose last record alone is, what looks at the log. The last vote and the last stamp change from
+//! length to length.
 
-use super::families::{ballot, end, record, state};
+use super::families::{ballot, by_own_leaf, end, record, state};
 use super::{Act, Group, State};
 
 const TERM: u32 = 5;
@@ -11,7 +12,7 @@ pub fn add_to(groups: &mut [Group]) {
     for length in 0..=6 {
         for (turn, older) in [0, length.max(1) - 1].into_iter().enumerate() {
             let state = state_of(length, older, turn);
-            for (group, acts) in groups.iter_mut().zip(acts(&state, older)) {
+            for (group, acts) in groups.iter_mut().zip(acts(&state, older, turn)) {
                 group.on(3 + length, &state, acts);
             }
         }
@@ -30,20 +31,25 @@ fn state_of(length: usize, older: usize, turn: usize) -> State {
 }
 
 /// For each group, in the order of the file, what a replica may do on such a state, and receipts
-/// for every record and past the last.
-fn acts(state: &State, older: usize) -> [Vec<Act>; 6] {
+/// for every record and past the last; on the second turn fewer.
+fn acts(state: &State, older: usize, turn: usize) -> [Vec<Act>; 6] {
     let length = state.log.len();
     let keep = length.max(1) - 1;
     let first_receipt = if older == 0 { 1 } else { length };
+    let again = by_own_leaf(ballot(2, TERM, end(state)));
+    let replaced = Act::Take(keep, vec![record(TERM, 8), record(TERM, 9)]);
+    let stamp = vec![Act::Stamp(length as u32)];
+    let receipts =
+        (first_receipt..=length + 1).map(|index| Act::Receipt(index as u32, index)).collect();
+    if turn > 0 {
+        return [vec![], vec![again], vec![replaced], vec![], stamp, receipts];
+    }
     [
         vec![Act::Raise(TERM + 1 + length as u32)],
-        vec![Act::Vote(ballot(2, TERM, end(state))), Act::Vote(ballot(3, TERM + 1, end(state)))],
-        vec![
-            Act::Take(length, vec![record(TERM, 9)]),
-            Act::Take(keep, vec![record(TERM, 8), record(TERM, 9)]),
-        ],
+        vec![again, by_own_leaf(ballot(3, TERM + 1, end(state)))],
+        vec![Act::Take(length, vec![record(TERM, 9)]), replaced],
         vec![Act::Add(record(TERM, 9))],
-        vec![Act::Stamp],
-        (first_receipt..=length + 1).map(Act::Receipt).collect(),
+        stamp,
+        receipts,
     ]
 }

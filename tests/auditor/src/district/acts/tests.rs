@@ -4,8 +4,9 @@
 use super::*;
 use std::mem::discriminant;
 
-/// The clause of document 02, W4.
+/// The clauses of document 02, W4 and W5.
 const TWO_REQUESTS: &str = "two requests in one term";
+const ONE_LEAF: &str = "a leaf that has signed another message";
 
 /// What a vote is for, but for its term: the candidate, and the end of the candidate's log.
 fn request(vote: &Vote) -> (u16, (u32, u32), Vec<u8>) {
@@ -18,9 +19,14 @@ fn clauses(example: &Example) -> Vec<(&'static str, bool)> {
     let Example { n, state, act, .. } = example;
     let own = state.term;
     let elsewhere = |index: usize| state.log[index - 1].term != own;
+    let signed = state.signed_by(act);
+    let other = |(leaf, message)| {
+        state.used.iter().filter(|used| used.0 == leaf).any(|used| used.1 != message)
+    };
+    let one_leaf = (ONE_LEAF, signed.is_some_and(other));
     match act {
         Act::Raise(term) => vec![("the term falls", *term < own)],
-        Act::Vote(vote) => {
+        Act::Vote(_, vote) => {
             let other = |last: Vote| last.term == vote.term && request(&last) != request(vote);
             vec![
                 ("a vote in a lower term", vote.term < own),
@@ -28,6 +34,7 @@ fn clauses(example: &Example) -> Vec<(&'static str, bool)> {
                 ("a candidate above n", vote.candidate as usize > *n),
                 (TWO_REQUESTS, state.last_vote.is_some_and(other)),
                 ("a staler log", (vote.last_term, vote.last_index) < end(&state.log)),
+                one_leaf,
             ]
         }
         Act::Take(keep, run) => {
@@ -46,19 +53,21 @@ fn clauses(example: &Example) -> Vec<(&'static str, bool)> {
             ("a record of another term added", record.term != own),
             ("a record of term 0 added", record.term == 0),
         ],
-        Act::Stamp => {
+        Act::Stamp(_) => {
             let last = state.log.len();
             vec![
                 ("a stamp of no record", last == 0),
                 ("a stamp in another term", last > 0 && elsewhere(last)),
+                one_leaf,
             ]
         }
-        Act::Receipt(index) => {
+        Act::Receipt(_, index) => {
             let there = (1..=state.log.len()).contains(index);
             vec![
                 ("a receipt for record 0", *index == 0),
                 ("a receipt past the end", *index > state.log.len()),
                 ("a receipt in another term", there && elsewhere(*index)),
+                one_leaf,
             ]
         }
         Act::Decline | Act::Restart => vec![],
@@ -78,6 +87,13 @@ fn all() -> Vec<Example> {
     groups().into_iter().flat_map(|group| group.examples).collect()
 }
 
+/// A leaf that is used for the first time is kept with its message, before the others.
+fn note(state: &mut State, leaf: u32, message: Message) {
+    if state.used.iter().all(|(other, _)| *other != leaf) {
+        state.used.insert(0, (leaf, message));
+    }
+}
+
 /// An act is allowed if it breaks no clause, and then only what document 01 says is changed.
 #[test]
 fn allowed_or_refused() {
@@ -85,17 +101,31 @@ fn allowed_or_refused() {
         assert_eq!(example.after.is_some(), broken(&example).is_empty(), "{example:?}");
         let mut replica = example.state.replica();
         if !replica.act(&example.act, example.n) {
-            assert_eq!(State::of(&replica), example.state, "changed by a refused act");
+            let State { term, last_vote, last_stamp, log, .. } = &example.state;
+            assert_eq!((replica.term, replica.last_vote), (*term, *last_vote), "a refused act");
+            assert_eq!((replica.last_stamp, &replica.log), (*last_stamp, log), "a refused act");
+            assert_eq!(replica.used, example.state.statements(), "a refused act");
             continue;
         }
         let mut changed = example.state.clone();
         match &example.act {
             Act::Raise(term) => changed.term = *term,
-            Act::Vote(vote) => (changed.term, changed.last_vote) = (vote.term, Some(*vote)),
+            Act::Vote(leaf, vote) => {
+                (changed.term, changed.last_vote) = (vote.term, Some(*vote));
+                note(&mut changed, *leaf, Message::Vote(*vote));
+            }
             Act::Take(keep, run) => changed.log = [&changed.log[..*keep], run].concat(),
             Act::Add(record) => changed.log.push(*record),
-            Act::Stamp => changed.last_stamp = Some(changed.term),
-            Act::Receipt(_) | Act::Decline | Act::Restart => (),
+            Act::Stamp(leaf) => {
+                changed.last_stamp = Some(changed.term);
+                let message = Message::Stamp(changed.log.clone());
+                note(&mut changed, *leaf, message);
+            }
+            Act::Receipt(leaf, index) => {
+                let message = Message::Receipt(changed.log[..*index].to_vec());
+                note(&mut changed, *leaf, message);
+            }
+            Act::Decline | Act::Restart => (),
         }
         assert_eq!(example.after, Some(changed), "{example:?}");
     }
@@ -120,7 +150,7 @@ fn clauses_broken_alone() {
             names.push(clause);
         }
     }
-    assert_eq!(names.len(), 20);
+    assert_eq!(names.len(), 21);
     for clause in names {
         let mut alone = examples.iter().filter(|example| broken(example) == [clause]);
         let found = alone.any(|example| {
@@ -147,12 +177,13 @@ fn one_field_of_a_request() {
     for n in [3, 6] {
         for (field, higher) in (0..4).flat_map(|field| [(field, false), (field, true)]) {
             let found = examples.iter().filter(|example| example.n == n).any(|example| {
-                let (Act::Vote(vote), Some(last)) = (&example.act, example.state.last_vote) else {
+                let (Act::Vote(_, vote), Some(last)) = (&example.act, example.state.last_vote)
+                else {
                     return false;
                 };
                 let beside = |holds: &dyn Fn(&Vote) -> bool| {
                     examples.iter().any(|other| {
-                        let Act::Vote(vote) = &other.act else { return false };
+                        let Act::Vote(_, vote) = &other.act else { return false };
                         let allowed = (other.n, &other.state) == (n, &example.state);
                         allowed && other.after.is_some() && holds(vote)
                     })
@@ -233,15 +264,16 @@ fn lengths() {
         })
     };
     for length in 0..=6 {
-        let vote = Act::Vote(families::ballot(1, 1, (0, 0)));
+        let vote = Act::Vote(0, families::ballot(1, 1, (0, 0)));
         let any = [Act::Raise(0), vote, Act::Take(0, vec![]), Act::Add(record(1, 0))];
         assert!(any.iter().all(|act| allowed(length, act)), "{length}");
-        let with_record = [Act::Stamp, Act::Receipt(1)];
+        let with_record = [Act::Stamp(0), Act::Receipt(0, 1)];
         assert!(with_record.iter().all(|act| allowed(length, act) == (length > 0)), "{length}");
         for index in 1..=length {
             assert!(examples.iter().any(|example| {
                 let whole = example.state.log.len() == length;
-                whole && example.act == Act::Receipt(index) && example.after.is_some()
+                let same = matches!(example.act, Act::Receipt(_, at) if at == index);
+                whole && same && example.after.is_some()
             }));
         }
     }
@@ -264,6 +296,7 @@ fn in_term_4() -> State {
         last_vote: Some(vote(2, 4, 3, 1)),
         last_stamp: Some(3),
         log: vec![record(3, 0), record(4, 7)],
+        used: Vec::new(),
     }
 }
 
@@ -275,35 +308,78 @@ fn by_hand() {
     assert_eq!(after(Act::Raise(3)), None);
     assert_eq!(after(Act::Raise(5)), Some(State { term: 5, ..state() }));
     // Another candidate, the same one on the log's end of now, and the same on another pointer.
-    assert_eq!(after(Act::Vote(vote(3, 4, 4, 2))), None);
-    assert_eq!(after(Act::Vote(vote(2, 4, 4, 2))), None);
-    let fresh = State { last_vote: Some(vote(2, 4, 4, 2)), ..state() };
-    let again = |vote| Example::new(3, fresh.clone(), Act::Vote(vote)).after;
-    assert_eq!(again(vote(2, 4, 4, 2)), Some(fresh.clone()));
+    assert_eq!(after(Act::Vote(0, vote(3, 4, 4, 2))), None);
+    assert_eq!(after(Act::Vote(0, vote(2, 4, 4, 2))), None);
+    let same = vote(2, 4, 4, 2);
+    let used = vec![(0, Message::Vote(same))];
+    let fresh = State { last_vote: Some(same), used, ..state() };
+    let again = |vote| Example::new(3, fresh.clone(), Act::Vote(0, vote)).after;
+    assert_eq!(again(same), Some(fresh.clone()));
     assert_eq!(again(Vote { last_pointer: [1; 32], ..vote(2, 4, 4, 2) }), None);
     // The last vote again, whose log is staler by now.
-    assert_eq!(after(Act::Vote(vote(2, 4, 3, 1))), None);
-    assert_eq!(after(Act::Vote(vote(3, 5, 4, 1))), None);
+    assert_eq!(after(Act::Vote(0, vote(2, 4, 3, 1))), None);
+    assert_eq!(after(Act::Vote(0, vote(3, 5, 4, 1))), None);
     let next = vote(3, 5, 4, 2);
-    assert_eq!(after(Act::Vote(next)), Some(State { term: 5, last_vote: Some(next), ..state() }));
+    let used = vec![(6, Message::Vote(next))];
+    let voted = State { term: 5, last_vote: Some(next), used, ..state() };
+    assert_eq!(after(Act::Vote(6, next)), Some(voted));
     assert_eq!(after(Act::Take(0, vec![record(4, 9)])), None);
     let run = vec![record(4, 9), record(4, 8)];
     assert_eq!(after(Act::Take(0, run.clone())), Some(State { log: run, ..state() }));
     assert_eq!(after(Act::Add(record(3, 1))), None);
     let log = vec![record(3, 0), record(4, 7), record(4, 1)];
     assert_eq!(after(Act::Add(record(4, 1))), Some(State { log, ..state() }));
-    assert_eq!(after(Act::Stamp), Some(State { last_stamp: Some(4), ..state() }));
-    assert_eq!(after(Act::Receipt(1)), None);
-    assert_eq!(after(Act::Receipt(2)), Some(state()));
+    let used = vec![(3, Message::Stamp(state().log))];
+    assert_eq!(after(Act::Stamp(3)), Some(State { last_stamp: Some(4), used, ..state() }));
+    assert_eq!(after(Act::Receipt(0, 1)), None);
+    let used = vec![(0, Message::Receipt(state().log))];
+    assert_eq!(after(Act::Receipt(0, 2)), Some(State { used, ..state() }));
     assert_eq!([Act::Decline, Act::Restart].map(after), [Some(state()), Some(state())]);
 }
 
-/// Two examples, one of them refused, and one whose state takes two lines.
+/// By hand from document 02, W5: leaf 5 has signed the stamp of the last record, (4, 2), and leaf 6
+/// a vote in term 4.
+#[test]
+fn leaves_by_hand() {
+    let (stamp, own) = (Message::Stamp(in_term_4().log), vote(2, 4, 4, 2));
+    let used = vec![(5, stamp), (6, Message::Vote(own))];
+    let state = State { last_vote: Some(own), last_stamp: Some(4), used, ..in_term_4() };
+    let after = |act| Example::new(3, state.clone(), act).after;
+    let with = |leaf, message| {
+        let mut state = state.clone();
+        state.used.insert(0, (leaf, message));
+        Some(state)
+    };
+    // The same message by its own leaf changes nothing; by another it is kept once more.
+    assert_eq!(after(Act::Stamp(5)), Some(state.clone()));
+    assert_eq!(after(Act::Vote(6, own)), Some(state.clone()));
+    assert_eq!(after(Act::Stamp(4)), with(4, Message::Stamp(state.log.clone())));
+    assert_eq!(after(Act::Vote(0, own)), with(0, Message::Vote(own)));
+    assert_eq!(after(Act::Receipt(7, 2)), with(7, Message::Receipt(state.log.clone())));
+    // Another message: a receipt for the same record, a stamp, and a vote in the next term.
+    assert_eq!([5, 6].map(|leaf| after(Act::Receipt(leaf, 2))), [None, None]);
+    assert_eq!((after(Act::Stamp(6)), after(Act::Vote(5, own))), (None, None));
+    let next = vote(2, 5, 4, 2);
+    assert_eq!([5, 6].map(|leaf| after(Act::Vote(leaf, next))), [None, None]);
+    let voted =
+        with(1, Message::Vote(next)).map(|state| State { term: 5, last_vote: Some(next), ..state });
+    assert_eq!(after(Act::Vote(1, next)), voted);
+    // Nothing else changes the leaves.
+    for act in [Act::Raise(9), Act::Add(record(4, 1)), Act::Decline, Act::Restart] {
+        assert_eq!(after(act).map(|after| after.used), Some(state.used.clone()));
+    }
+}
+
+/// Examples with every kind of act, one of them refused, and one whose state takes two lines.
 #[test]
 fn written() {
     let mut group = Group::new("raises", "raises");
     group.on(3, &in_term_4(), [Act::Raise(5)]);
-    group.on(3, &State::default(), [Act::Stamp]);
+    group.on(3, &State::default(), [Act::Stamp(8)]);
+    let used = vec![(9, Message::Vote(vote(2, 4, 3, 1))), (0, Message::Stamp(vec![record(3, 0)]))];
+    group.on(3, &State { used, ..in_term_4() }, [Act::Receipt(1, 2), Act::Stamp(0)]);
+    let voted = State { term: 5, last_vote: None, log: vec![], ..in_term_4() };
+    group.on(3, &voted, [Act::Vote(7, vote(1, 6, 0, 0))]);
     let many = State { log: vec![record(u32::MAX, 255); 4], ..in_term_4() };
     group.on(3, &many, [Act::Take(4, vec![record(4, 0)])]);
     let text = text::file(&[group]);
@@ -311,14 +387,27 @@ fn written() {
 -- raises
 unfoldable pub raises : List Case
 raises =
-    given 3 (state 4 (some (ballot 2 4 3 1 0)) (some 3) (of 3 0 ∷ of 4 7 ∷ []))
+    given 3 (state 4 (some (ballot 2 4 3 1 0)) (some 3) (of 3 0 ∷ of 4 7 ∷ []) [])
     (raise 5)
-    (some (state 5 (some (ballot 2 4 3 1 0)) (some 3) (of 3 0 ∷ of 4 7 ∷ [])))
-    ∷ given 3 (state 0 none none [])
-    stamp
+    (some (state 5 (some (ballot 2 4 3 1 0)) (some 3) (of 3 0 ∷ of 4 7 ∷ []) []))
+    ∷ given 3 (state 0 none none [] [])
+    (stamp 8)
     none
+    ∷ given 3 (state 4 (some (ballot 2 4 3 1 0)) (some 3) (of 3 0 ∷ of 4 7 ∷ [])
+    (used 9 (voted (ballot 2 4 3 1 0)) ∷ used 0 (stamped (of 3 0 ∷ [])) ∷ []))
+    (receipt 1 2)
+    (some (state 4 (some (ballot 2 4 3 1 0)) (some 3) (of 3 0 ∷ of 4 7 ∷ [])
+    (used 1 (received (of 3 0 ∷ of 4 7 ∷ [])) ∷ used 9 (voted (ballot 2 4 3 1 0)) ∷ \
+        used 0 (stamped (of 3 0 ∷ [])) ∷ [])))
+    ∷ given 3 (state 4 (some (ballot 2 4 3 1 0)) (some 3) (of 3 0 ∷ of 4 7 ∷ [])
+    (used 9 (voted (ballot 2 4 3 1 0)) ∷ used 0 (stamped (of 3 0 ∷ [])) ∷ []))
+    (stamp 0)
+    none
+    ∷ given 3 (state 5 none (some 3) [] [])
+    (vote 7 (ballot 1 6 0 0 0))
+    (some (state 6 (some (ballot 1 6 0 0 0)) (some 3) [] (used 7 (voted (ballot 1 6 0 0 0)) ∷ [])))
     ∷ given 3 (state 4 (some (ballot 2 4 3 1 0)) (some 3)
-    (of 4294967295 255 ∷ of 4294967295 255 ∷ of 4294967295 255 ∷ of 4294967295 255 ∷ []))
+    (of 4294967295 255 ∷ of 4294967295 255 ∷ of 4294967295 255 ∷ of 4294967295 255 ∷ []) [])
     (run 4 (of 4 0 ∷ []))
     none
     ∷ []

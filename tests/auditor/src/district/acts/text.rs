@@ -1,6 +1,6 @@
 //! Examples as a file of the proof language.
 
-use super::{Act, Example, Group, State};
+use super::{Act, Example, Group, Message, State};
 use crate::sha256::Digest;
 use crate::statement::{Record, Vote};
 
@@ -16,7 +16,7 @@ const HEAD: &str = "\
 use mathlib.Core.List.{List, [], _∷_, _++_}
 use mathlib.Core.Option.{some, none}
 use Rattle.replica.specs.Replica.{raise, vote, run, add, stamp, receipt, decline, restart}
-use Rattle.replica.proofs.Case.{Case, given, state, ballot, of}
+use Rattle.replica.proofs.Case.{Case, given, state, ballot, of, used, voted, stamped, received}
 ";
 
 /// A list for each group, and one of them all.
@@ -65,18 +65,19 @@ fn words_of_state(state: &State, close: &str) -> Vec<String> {
         state.term.to_string(),
         state.last_vote.map_or("none".to_string(), |vote| format!("(some {})", ballot(&vote))),
         state.last_stamp.map_or("none".to_string(), |term| format!("(some {term})")),
-        log(&state.log) + close,
+        log(&state.log),
+        leaves(&state.used) + close,
     ]
 }
 
 fn words_of_act(act: &Act) -> Vec<String> {
     match act {
         Act::Raise(term) => vec![format!("(raise {term})")],
-        Act::Vote(vote) => vec![format!("(vote {})", ballot(vote))],
+        Act::Vote(leaf, vote) => vec![format!("(vote {leaf} {})", ballot(vote))],
         Act::Take(keep, run) => vec!["(run".to_string(), keep.to_string(), log(run) + ")"],
         Act::Add(record) => vec![format!("(add ({}))", of(record))],
-        Act::Stamp => vec!["stamp".to_string()],
-        Act::Receipt(index) => vec![format!("(receipt {index})")],
+        Act::Stamp(leaf) => vec![format!("(stamp {leaf})")],
+        Act::Receipt(leaf, index) => vec![format!("(receipt {leaf} {index})")],
         Act::Decline => vec!["decline".to_string()],
         Act::Restart => vec!["restart".to_string()],
     }
@@ -97,11 +98,27 @@ fn ballot(vote: &Vote) -> String {
 }
 
 fn log(records: &[Record]) -> String {
-    if records.is_empty() {
-        return "[]".to_string();
+    list(records.iter().map(of).collect())
+}
+
+/// Leaves that are used, each with what it has signed.
+fn leaves(used: &[(u32, Message)]) -> String {
+    let one = |(leaf, message): &(u32, Message)| {
+        let message = match message {
+            Message::Vote(vote) => format!("voted {}", ballot(vote)),
+            Message::Stamp(records) => format!("stamped {}", log(records)),
+            Message::Receipt(records) => format!("received {}", log(records)),
+        };
+        format!("used {leaf} ({message})")
+    };
+    list(used.iter().map(one).collect())
+}
+
+fn list(elements: Vec<String>) -> String {
+    match elements[..] {
+        [] => "[]".to_string(),
+        _ => format!("({} ∷ [])", elements.join(" ∷ ")),
     }
-    let records: Vec<String> = records.iter().map(of).collect();
-    format!("({} ∷ [])", records.join(" ∷ "))
 }
 
 fn of(record: &Record) -> String {
