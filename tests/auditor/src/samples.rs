@@ -6,6 +6,7 @@ pub mod pointers;
 
 use crate::build::{log, Draft};
 use crate::cases::accepted::{large, largest, LARGEST_LEAVES, LARGE_LEAVES};
+use crate::cases::leaves::places::{self, Place};
 use crate::cases::worked_examples::{one_leader, stale_leader};
 use crate::cases::{empty, led, small, whole};
 use crate::cluster::{Cluster, Keys};
@@ -112,8 +113,8 @@ fn pair(folder: &'static str, cluster: &Cluster, (first, second): (Draft, Draft)
     Pair { folder, roster: cluster.roster(), first: first.bytes(), second: second.bytes() }
 }
 
-/// What stands in the folder samples: document 01's worked pairs, one for document 02's W4, and one
-/// that all but fills the buffers of the program.
+/// What stands in the folder samples: document 01's worked pairs, one for document 02's W4 and one
+/// for W5, and one that all but fills the buffers of the program.
 pub fn samples(cluster: &Rc<Cluster>, keys: &Keys) -> Vec<Pair> {
     let nine = keys.cluster(9, 5);
     vec![
@@ -121,6 +122,7 @@ pub fn samples(cluster: &Rc<Cluster>, keys: &Keys) -> Vec<Pair> {
         pair("one_leader", cluster, one_leader(&Signer::new(cluster))),
         pair("stale_leader", cluster, stale_leader(&Signer::new(cluster))),
         pair("two_requests", cluster, two_requests(&Signer::new(cluster))),
+        pair("one_leaf", cluster, one_leaf(&Signer::new(cluster))),
         pair("large", &nine, filling(&Signer::new(&nine))),
     ]
 }
@@ -146,6 +148,21 @@ fn two_requests(signer: &Signer) -> (Draft, Draft) {
     let first = log(&[(1, "a"), (2, "b")]);
     let first = signer.submission(&first, &[(3, 0b110), (1, 0b011)], Some((2, 0b011)));
     let second = signer.submission(&log(&[(2, "c")]), &[(1, 0b011)], Some((1, 0b011)));
+    (first, second)
+}
+
+/// n = 3. Replicas 1 and 2 elect replica 1 in term 1; it leads one record, and then another, and the
+/// same two give receipts for both. Replica 2 signs its two receipts with leaf 7. Nobody breaks
+/// another rule, and there is no fork.
+pub fn one_leaf(signer: &Signer) -> (Draft, Draft) {
+    let records = log(&[(1, "a"), (1, "b")]);
+    let made = |length: usize| {
+        signer.submission(&records[..length], &[(1, 0b011)], Some((length as u32, 0b011)))
+    };
+    let (mut first, mut second) = (made(1), made(2));
+    for draft in [&mut first, &mut second] {
+        places::sign(signer, draft, 2, Place::Receipt, 7);
+    }
     (first, second)
 }
 
@@ -220,6 +237,7 @@ mod tests {
             "refusal 0 in 0\nfork 1\nboard 1 rule 2 term 1\n",
             "refusal 0 in 0\nfork 1\nboard 2 rule 3 term 2\n",
             "refusal 0 in 0\nfork 1\nboard 1 rule 1 term 2\nboard 2 rule 1 term 2\n",
+            "refusal 0 in 0\nfork 0\nboard 2 rule 5 term 7\n",
             "refusal 0 in 0\nfork 60\nboard 1 rule 2 term 4\nboard 5 rule 3 term 7\n\
                 board 6 rule 3 term 7\nboard 7 rule 3 term 7\n",
             "refusal 0 in 0\nfork 1\nboard 2 rule 4 term 2\n",

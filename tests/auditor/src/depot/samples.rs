@@ -6,6 +6,7 @@ use crate::build::{log, Draft};
 use crate::cases::{empty, led};
 use crate::cluster::{Cluster, Keys};
 use crate::roster::mask_of;
+use crate::samples::one_leaf;
 use crate::sha256::sha256;
 use crate::signer::Signer;
 use crate::statement::Record;
@@ -58,6 +59,8 @@ pub fn more(cluster: &Rc<Cluster>, keys: &Keys) -> Vec<List> {
     let elect = |candidate, signers| {
         voter.submission(&log(&[(1, "a")]), &[(candidate, signers)], None).bytes()
     };
+    let (one, other) = one_leaf(&Signer::new(cluster));
+    let reused = |between| vec![one.bytes(), between, other.bytes()];
     let many = keys.cluster_with(9, NINE_LEAVES);
     vec![
         list("all_refused", cluster, (5..=13).map(bad).collect()),
@@ -68,6 +71,7 @@ pub fn more(cluster: &Rc<Cluster>, keys: &Keys) -> Vec<List> {
             cluster,
             vec![elect(2, 0b011), elect(1, 0b101), elect(3, 0b110)],
         ),
+        list("one_leaf", cluster, reused(bad(15))),
         list("nine", &many, nine(&Signer::new(&many)).iter().map(Draft::bytes).collect()),
     ]
 }
@@ -104,12 +108,13 @@ mod tests {
         let (cluster, mut verdicts) = (cluster(), Verdicts::default());
         let mut lists = vec![sample(&cluster)];
         lists.extend(more(&cluster, &large_keys()));
-        let expected: [(&str, &[u8], &str); 6] = [
+        let expected: [(&str, &[u8], &str); 7] = [
             ("district", &[0, 0, 15, 0, 0], "fork 2 4\nboard 1\nboard 2\n"),
             ("all_refused", &[5, 6, 7, 8, 9, 10, 11, 12, 13], "fork 0 0\n"),
             ("one_accepted", &[14, 0, 15], "fork 0 0\n"),
             ("fork_2_4", &[0; 4], "fork 2 4\nboard 1\n"),
             ("named_without_fork", &[0; 3], "fork 0 0\nboard 1\nboard 2\nboard 3\n"),
+            ("one_leaf", &[0, 15, 0], "fork 0 0\nboard 2\n"),
             ("nine", &[0; 9], "fork 1 2\nboard 1\n"),
         ];
         assert_eq!(lists.len(), expected.len());
