@@ -2,61 +2,25 @@
 //! W5, honest and cheating, and the submissions that what they signed allows.
 
 pub mod acts;
+mod claim;
 pub mod premises;
 mod replica;
 mod signed;
 
 use crate::assemble::items::Item;
-use crate::build::{ends, Draft};
+use crate::build::ends;
 use crate::cluster::Cluster;
 use crate::random::Random;
 use crate::roster::{mask_of, quorum, replicas_of};
 use crate::sha256::sha256;
 use crate::signer::Signer;
-use crate::statement::{pointers, position, Position, Record, Statement, Vote};
+use crate::statement::{pointers, Position, Record, Statement, Vote};
 use crate::submission::{Submission, Use};
+pub use claim::{two_of, Claim};
 pub use replica::Act;
 use replica::{Cheats, Replica};
 use signed::Signed;
 use std::rc::Rc;
-
-/// What a submission is made of: a log, each term's candidate and signers, and a commit's index
-/// and signers.
-#[derive(Clone, Debug)]
-pub struct Claim {
-    pub records: Vec<Record>,
-    pub leaders: Vec<(u16, u16)>,
-    pub commit: Option<(u32, u16)>,
-}
-
-impl Claim {
-    /// The submission, as it is accepted, without signatures, and so without the leaves.
-    pub fn unsigned(&self) -> Submission {
-        Draft::unsigned([0; 16], &self.records, &self.leaders, self.commit).parts_of()
-    }
-
-    /// Every signature that it has: whose, and on what.
-    fn statements(&self) -> Vec<(u16, Statement)> {
-        let Submission { records, leaders, commit, .. } = self.unsigned();
-        let pointers = pointers(&records);
-        let at = |index: usize| position(&records, &pointers, index);
-        let each =
-            |signers, statement| replicas_of(signers).into_iter().map(move |k| (k, statement));
-        let mut all = Vec::new();
-        for (leader, end) in leaders.iter().zip(ends(&records)) {
-            all.extend(each(leader.signers, Statement::Vote(leader.vote)));
-            all.push((leader.vote.candidate, Statement::Stamp(at(end))));
-        }
-        if let Some(commit) = commit {
-            all.extend(each(commit.signers, Statement::Receipt(at(commit.index as usize))));
-        }
-        all
-    }
-
-    pub fn draft(&self, signer: &Signer) -> Draft {
-        signer.submission(&self.records, &self.leaders, self.commit)
-    }
-}
 
 /// The replicas' network has two sides; a cheat may live on both, with a state on each.
 pub struct District {
@@ -116,6 +80,7 @@ impl District {
             if !cheating.contains(number) {
                 continue;
             }
+            // Whatever else they do, some use leaves again.
             if number % 3 == 0 {
                 self.reusing |= mask_of(&[*number]);
             }
@@ -424,22 +389,6 @@ impl District {
         }
         logs.into_iter().filter_map(|log| self.signed.claim(self.n, log, random)).collect()
     }
-}
-
-/// Two of the claims, more often than not two with commits whose logs part.
-pub fn two_of<'a>(claims: &'a [Claim], random: &mut Random) -> Option<(&'a Claim, &'a Claim)> {
-    if claims.is_empty() {
-        return None;
-    }
-    let mut two = (&claims[0], &claims[0]);
-    for _ in 0..6 {
-        two = (&claims[random.below(claims.len())], &claims[random.below(claims.len())]);
-        let part = two.0.records.iter().zip(&two.1.records).any(|(a, b)| a != b);
-        if part && two.0.commit.is_some() && two.1.commit.is_some() {
-            break;
-        }
-    }
-    Some(two)
 }
 
 /// A digest for the i-th record of a run.

@@ -5,7 +5,7 @@
 //! - `numbers`, `roster`, `statement`, `submission`, `audit`, `program`: the audit, its numbers,
 //!   its report and the lines that the program prints;
 //! - in `audit`, and in the board rules of `district`, document 02's W4: votes of one term are for
-//!   one request, or are charged;
+//!   one request, or are charged; and W5: one leaf, one message, or a charge;
 //! - `depot`, from document 02, W1, besides: the run over a list of submissions, with its cases;
 //! - `assemble`, from document 02, W3: a submission from a log and a bag of items, with its cases.
 //!
