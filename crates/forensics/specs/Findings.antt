@@ -31,15 +31,13 @@ says k (x ∷ xs) = cond (eqb (x .replica) k) (x .claim ∷ says k xs) (says k x
 unfoldable pub charges : ℕ → List Slot → List Slot → List Charge
 charges k xs ys = flatMap (λ c. flatMap (clash c) (says k ys)) (says k xs)
 
--- over the use of a leaf that a signature is
-module _ (asUse : Slot → Use) where
-  -- rule 5 (document 02, W5): what two of replica k's signatures break, wherever they stand
-  unfoldable pub leafCharges : ℕ → List Slot → List Charge
-  leafCharges k zs = let us = uses asUse k zs in flatMap (λ x. flatMap (leafClash x) us) us
+-- rule 5 (document 02, W5): what two of some uses of a replica's leaves break
+unfoldable pub leafCharges : List Use → List Charge
+leafCharges us = flatMap (λ x. flatMap (leafClash x) us) us
 
-  -- all rules: rule 5 in one or both submissions
-  unfoldable pub allCharges : ℕ → List Slot → List Slot → List Charge
-  allCharges k xs ys = charges k xs ys ++ leafCharges k (xs ++ ys)
+-- all rules; rule 5 wherever two of its signatures stand, by the use of a leaf that each is
+unfoldable pub allCharges : (Slot → Use) → ℕ → List Slot → List Slot → List Charge
+allCharges asUse k xs ys = charges k xs ys ++ leafCharges (uses asUse k (xs ++ ys))
 
 -- ---- the rows
 

@@ -1,3 +1,4 @@
 pub mod Lowest
 pub mod Rows
 mod Broken
+pub mod LeafRows

@@ -1,5 +1,5 @@
-// What the four rules charge a replica with, from two terms or from a receipt and a term, as a row of the
-// report (document 01, "The report").
+// What the rules charge a replica with, from two terms, from a receipt and a term, or from the uses of its
+// leaves, as a row of the report (document 01, "The report").
 ghost use mathlib.Core.Path.{_≡_};
 ghost use mathlib.Core.List.{[]};
 ghost use Prim.Native.Nat.{_<_};
@@ -8,6 +8,7 @@ ghost use Rattle.forensics.specs.Findings.{lowest};
 ghost use Rattle.forensics_charges.specs.Rules.{forgotten};
 ghost use Rattle.forensics_charges.specs.Charges as inner;
 
+pub mod leaves;
 pub mod rules;
 
 // A term of a submission as its rules compare it: the vote and the signers of its leader certificate, and the
@@ -30,7 +31,8 @@ pub struct Receipt {
     pub signers: u16,
 }
 
-// A row of the report: the rule and the term, both 0 for a replica that is not named.
+// A row of the report: the rule and the term, both 0 for a replica that is not named. For rule 5 the term is a
+// leaf's number.
 pub struct Row {
     pub rule: u8,
     pub term: u64,

@@ -14,7 +14,7 @@ use Rattle.words.specs.BigEndian.{be, number, numberAt, same}
 use Rattle.words.specs.Over.{over}
 use Rattle.words.proofs.Laws.{length-be, number-be, take-sets, sets-append, drop-take}
 use Rattle.words.proofs.Same.{same-true, true-same, same-test}
-use Rattle.lm_format.specs.Leaf.{Leaf}
+use Rattle.lm_format.specs.Leaf.{leafNumber}
 use Rattle.lm_format.specs.Uses.{Use, useOf, reused}
 use Rattle.submission.specs.Sizes.{statementMost}
 use Rattle.lm_format.proofs.Leaf.{leaf-same, leaves-differ}
@@ -134,9 +134,15 @@ module _ (b : List ℕ) where
     unfolding reused held useOf
     by-messages r h e = rw (entry-leaf one, entry-leaf other, leaf-same _ _ h, entry-message one, entry-message other, e)
 
+-- ---- the number of an entry's leaf
+
+pub held-number : (b : List ℕ) (i : ℕ) → numberAt 4 b (entrySize * i) ≡ leafNumber (heldAt i b .leaf)
+unfolding leafNumber heldAt held useOf
+held-number b i = sym (entry-leaf b (entrySize * i))
+
 -- ---- the entries that are left
 
-left-first : (b : List ℕ) (n j : ℕ) → j < n → heldIn (n - j) (drop (entrySize * j) b) ≡ heldAt j b ∷ heldIn (n - (j + 1)) (drop (entrySize * (j + 1)) b)
+pub left-first : (b : List ℕ) (n j : ℕ) → j < n → heldIn (n - j) (drop (entrySize * j) b) ≡ heldAt j b ∷ heldIn (n - (j + 1)) (drop (entrySize * (j + 1)) b)
 unfolding heldIn heldAt
 left-first b n j h =
     let count : n - j ≡ suc (n - (j + 1)) = omega arith in
