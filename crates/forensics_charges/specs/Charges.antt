@@ -3,9 +3,9 @@
 use mathlib.Core.Bool.{cond}
 use mathlib.Core.List.{List, [], _∷_, _++_, map, flatMap}
 use mathlib.Core.Option.{Option, some, none}
-use Prim.Native.Nat.{ℕ, zero, suc}
+use Prim.Native.Nat.{ℕ, zero, suc, _-_}
 use lib.Dec.{eqb, leb, ltb}
-use lib.ListN.{take}
+use lib.ListN.{take, getD}
 use Rattle.refusal.specs.Checks.{all}
 use Rattle.log_chain.specs.Log.{Record, lastTerm}
 use Rattle.replica.specs.Charges.{Charge, charge}
@@ -71,6 +71,10 @@ least (some c) y = some (forensics.lower c y)
 
 unfoldable pub chargeOf : Row → Option Charge
 chargeOf row = cond (eqb (row .rule) 0) none (some (record { rule = row .rule; term = row .term }))
+
+-- that of replica k, in the rows of replicas 1 to 9
+unfoldable pub rowAt : List Row → ℕ → Option Charge
+rowAt rows k = chargeOf (getD rows (k - 1) (record { rule = 0; term = 0 }))
 
 unfoldable pub findingsOf : Findings → forensics.Findings
 findingsOf f = record { fork = f .fork; rows = map chargeOf (f .rows) }

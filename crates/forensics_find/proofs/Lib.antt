@@ -9,3 +9,4 @@ pub mod Replicas
 pub mod Shown
 mod Committed
 mod Numbers
+pub mod Gathered

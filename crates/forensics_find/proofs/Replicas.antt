@@ -6,11 +6,12 @@ use mathlib.Core.Option.{Option}
 use Prim.Native.Nat.{ℕ, zero, suc, _+_, _≤_, _<_}
 use native.Mathlib.Numerals.{add-one}
 use native.Mathlib.Omega.{arith}
-use lib.ListN.{length, take, set, length-set}
+use lib.ListN.{length, take, set, getD, length-set}
 use lib.Seq.{take-all, take-suc-set}
 use Rattle.replica.specs.Charges.{Charge}
 use Rattle.submission.specs.View.{Slot}
-use Rattle.forensics.specs.Findings.{charges, lowest, rowsFrom}
+use Rattle.lm_format.specs.Uses.{Use}
+use Rattle.forensics.specs.Findings.{allCharges, lowest, rowsFrom}
 use Rattle.forensics_charges.specs.declared.Row.{Row}
 use Rattle.forensics_charges.specs.Charges.{rowsBy, chargeOf}
 
@@ -50,12 +51,20 @@ module _ (row : ℕ → Option Charge) where
       let rows : map chargeOf (take 9 out) ≡ rowsBy row 9 1 = rw all at (x .done) in
       ap (map chargeOf) (sym (take-all 9 out (omega (arith, x .long)))) ∙ rows
 
+-- ---- one row of them
+
+pub rows-at : (row : ℕ → Option Charge) (d : Option Charge) (count k i : ℕ) → i < count → getD (rowsBy row count k) i d ≡ row (k + i)
+unfolding rowsBy
+rows-at row d zero k i h = absurd (omega arith)
+rows-at row d (suc count) k zero h = let here : k + 0 ≡ k = omega arith in rw here
+rows-at row d (suc count) k (suc i) h = let place : k + suc i ≡ suc k + i = omega arith in rw place (rows-at row d count (suc k) i (omega arith))
+
 -- ---- rows that are those of the charges
 
-pub rows-same : (row : ℕ → Option Charge) (xs ys : List Slot) (count k : ℕ)
-    → ((j : ℕ) → k ≤ j → j < k + count → lowest (charges j xs ys) ≡ row j) → rowsBy row count k ≡ rowsFrom count k xs ys
+pub rows-same : (asUse : Slot → Use) (row : ℕ → Option Charge) (xs ys : List Slot) (count k : ℕ)
+    → ((j : ℕ) → k ≤ j → j < k + count → lowest (allCharges asUse j xs ys) ≡ row j) → rowsBy row count k ≡ rowsFrom asUse count k xs ys
 unfolding rowsBy rowsFrom
-rows-same row xs ys zero k e = refl
-rows-same row xs ys (suc count) k e =
-    let rest = rows-same row xs ys count (suc k) (λ j p q. e j (omega arith) (omega arith)) in
+rows-same asUse row xs ys zero k e = refl
+rows-same asUse row xs ys (suc count) k e =
+    let rest = rows-same asUse row xs ys count (suc k) (λ j p q. e j (omega arith) (omega arith)) in
     rw (e k (omega arith) (omega arith), rest)

@@ -1,5 +1,5 @@
-// A replica's row: the lowest of what the four rules charge it with, from two submissions (document 01, "The
-// report"), over the term's width.
+// A replica's row by rules 1 to 4: the lowest of what they charge it with, from two submissions (document 01,
+// "The report"), over the term's width.
 ghost use mathlib.Core.Path.{_≡_};
 ghost use mathlib.Core.Bool.{true};
 ghost use mathlib.Core.List.{map, flatMap};

@@ -29,7 +29,6 @@ pub fn add_use(buffer: &mut [u8], n: usize, leaf: u32, size: usize, statement: &
     n + 1
 }
 
-
 // Whether two entries, at places, have one leaf and different messages.
 fn entries_reused(buffer: &[u8], one: usize, other: usize) -> bool
     requires { ⌜ (one + entrySize ≤ length (now buffer)) × (other + entrySize ≤ length (now buffer)) ⌝ }

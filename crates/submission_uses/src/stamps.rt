@@ -16,12 +16,12 @@ ghost use Rattle.submission_signatures.specs.Checked.{Checked};
 ghost use Rattle.leaf_uses.specs.Held.{entrySize, paddedUse, heldIn};
 ghost use Rattle.submission_uses.specs.Signed.{useIn};
 ghost use Rattle.submission_uses.specs.StampUses.{stampUses};
+use super::StampPart;
 use log_chain::STAMP;
 use sha256::State;
 use submission::STATEMENT_MOST;
 use submission::TERM_AT;
 use submission_parts::Shape;
-use super::StampPart;
 
 // Puts a stamp, where it is replica k's.
 fn add_stamp(

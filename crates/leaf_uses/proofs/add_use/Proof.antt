@@ -26,11 +26,12 @@ returns : tie.Need-returns
 returns c =
     let start = c .before .before .before .before .before .before .before .before .before .before in
     let a = start .args in
-    let at = entrySize * a .n in
-    (refl,
+    let at = entrySize * a .n in (
+      refl,
       entry-added (a .n) (a .leaf) (a .size) (a .buffer .now) _ (a .statement .now) (omega arith) (start .pre .0) (start .pre .2)
-      (c .before .before .put-bytes .ensures
-      ∙ ap (λ (z : List ℕ). sets (sets z (at + 4) (a .size ∷ [])) (at + 4 + 1) (a .statement .now)) (c .before .before .before .before .before .before .put-u32 .ensures)))
+          (c .before .before .put-bytes .ensures
+          ∙ ap (λ (z : List ℕ). sets (sets z (at + 4) (a .size ∷ [])) (at + 4 + 1) (a .statement .now)) (c .before .before .before .before .before .before .put-u32 .ensures)),
+    )
 
 pub add-use-spec : {M : Type 1} → statement M
 add-use-spec =

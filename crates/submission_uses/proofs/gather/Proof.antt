@@ -43,10 +43,11 @@ returns c =
     let a = start .args in
     let p = start .pre in
     let known = p .0 .counted .laid .known in
-    let absent = absent-says _ _ _ (sym (read .commit-part .ensures) ∙ c .enum-told .given .1) in
-    (omega (arith, stamps .add-stamps .ensures .0, votes .add-votes .ensures .0),
+    let absent = absent-says _ _ _ (sym (read .commit-part .ensures) ∙ c .enum-told .given .1) in (
+      omega (arith, stamps .add-stamps .ensures .0, votes .add-votes .ensures .0),
       without-receipt _ (a .shape .size) (a .k) (view (a .shape .width) (a .shape .size) (a .s .now)) (p .0 .counted .count) (stamp-count _ _ known ∙ sym (leader-count _ _ known))
-      (heldIn (a .n) (a .buffer .now)) (votes .add-votes .ensures .1) (stamps .add-stamps .ensures .1) absent)
+          (heldIn (a .n) (a .buffer .now)) (votes .add-votes .ensures .1) (stamps .add-stamps .ensures .1) absent,
+    )
 
 add-receipt-requires : tie.Need-add-receipt-requires
 add-receipt-requires c κs =
@@ -57,9 +58,16 @@ add-receipt-requires c κs =
     let a = start .args in
     let p = start .pre in
     let told = found-says _ _ _ (sym (read .commit-part .ensures) ∙ c .before .before .at .given .1) in
-    let there = commit-records _ _ _ (p .0 .counted .laid) _ (told .2) (p .0 .commit) in
-    (p .0, p .4, told .1, told .2, p .1 .committed ∙ ap (pointer (withTerms (a .shape .width) [])) there, p .2, p .3,
-      omega (arith, p .5, stamps .add-stamps .ensures .0, votes .add-votes .ensures .0, stamps .add-stamps .kept .1 .1 .1 .1 .1 .0, votes .add-votes .kept .1 .1 .1 .1 .0))
+    let there = commit-records _ _ _ (p .0 .counted .laid) _ (told .2) (p .0 .commit) in (
+      p .0,
+      p .4,
+      told .1,
+      told .2,
+      p .1 .committed ∙ ap (pointer (withTerms (a .shape .width) [])) there,
+      p .2,
+      p .3,
+      omega (arith, p .5, stamps .add-stamps .ensures .0, votes .add-votes .ensures .0, stamps .add-stamps .kept .1 .1 .1 .1 .1 .0, votes .add-votes .kept .1 .1 .1 .1 .0),
+    )
 
 returns-2 : tie.Need-returns-2
 unfolding view
@@ -72,11 +80,12 @@ returns-2 c =
     let p = start .pre in
     let known = p .0 .counted .laid .known in
     let put = c .before .before .add-receipt in
-    let told = found-says _ _ _ (sym (read .commit-part .ensures) ∙ c .before .before .before .before .before .at .given .1) in
-    (omega (arith, stamps .add-stamps .ensures .0, votes .add-votes .ensures .0, put .ensures .0),
+    let told = found-says _ _ _ (sym (read .commit-part .ensures) ∙ c .before .before .before .before .before .at .given .1) in (
+      omega (arith, stamps .add-stamps .ensures .0, votes .add-votes .ensures .0, put .ensures .0),
       with-receipt _ (a .shape .size) (a .k) (view (a .shape .width) (a .shape .size) (a .s .now)) (p .0 .counted .count) (stamp-count _ _ known ∙ sym (leader-count _ _ known))
-      (heldIn (a .n) (a .buffer .now)) (votes .add-votes .ensures .1) (stamps .add-stamps .ensures .1) (told .2)
-      (rw (known-records _ _ known) at (put .ensures .1)))
+          (heldIn (a .n) (a .buffer .now)) (votes .add-votes .ensures .1) (stamps .add-stamps .ensures .1) (told .2)
+          (rw (known-records _ _ known) at (put .ensures .1)),
+    )
 
 pub gather-spec : {M : Type 1} → statement M
 gather-spec =

@@ -23,10 +23,11 @@ loop-again : tie.Need-loop-again Inv-loop μ-loop
 loop-again c =
     let looped = c .before .before .before .before .before in
     let a = looped .before .before .before .args in
-    let l = looped .loop in
-    (omega arith,
+    let l = looped .loop in (
+      omega arith,
       uses-next (a .buffer .now) (a .n) (l .i) _ (l .inv .1) (c .before .before .before .before .loop-test .taken)
-      (c .before .before .before .u32-at .ensures .0 ∙ held-number (a .buffer .now) (l .i)) (c .before .before .leaf-reused .ensures) (c .before .charged .ensures) (c .lower-row .ensures))
+          (c .before .before .before .u32-at .ensures .0 ∙ held-number (a .buffer .now) (l .i)) (c .before .before .leaf-reused .ensures) (c .before .charged .ensures) (c .lower-row .ensures),
+    )
 
 returns : tie.Need-returns Inv-loop μ-loop
 returns c =

@@ -41,10 +41,11 @@ returns c =
     let a = start .args in
     let p = start .pre in
     let mask = c .before .before .u16-at .ensures .0 in
-    let unsigned = ap (λ (m : ℕ). signer m (a .k)) (sym mask) ∙ sym (c .before .signer .ensures) ∙ not-true _ (c .if1 .taken) in
-    (omega arith,
+    let unsigned = ap (λ (m : ℕ). signer m (a .k)) (sym mask) ∙ sym (c .before .signer .ensures) ∙ not-true _ (c .if1 .taken) in (
+      omega arith,
       no-entry _ _ (no-receipt (a .roster .now) (a .s .now) (a .shape .width) (a .shape .size) (a .at) (a .shape .records) (a .k) (p .5) (p .6) (p .1) (bytesOf (a .pointer))
-      (commit-within _ _ _ (p .0 .counted .laid) _ (p .3) (p .0 .commit)) (p .4) unsigned))
+          (commit-within _ _ _ (p .0 .counted .laid) _ (p .3) (p .0 .commit)) (p .4) unsigned),
+    )
 
 add-signature-place : tie.Need-add-signature-place
 unfolding commitEnd
@@ -126,12 +127,13 @@ returns-2 c =
     let message = padded-put _ _ _ (omega (arith, room, done .0, written-inside _ _ _ _ (done .0) (done .1))) (done .0) (done .1)
     ∙ ap₂ (λ (t i : ℕ). padded (placeStatement 2 (cluster roster) w t i (bytesOf (a .pointer)))) term index in
     let place = leafed .before .signature-place .ensures ∙ ap (λ (m : ℕ). signaturePlace m (a .k) (a .shape .size) (a .at + 6)) mask in
-    let leaf = leafed .u32-at .ensures .0 ∙ ap (numberAt 4 s) place in
-    (omega (arith, c .before .before .add-use .ensures .0),
+    let leaf = leafed .u32-at .ensures .0 ∙ ap (numberAt 4 s) place in (
+      omega (arith, c .before .before .add-use .ensures .0),
       c .before .before .add-use .ensures .1
-      ∙ ap (λ z. heldIn (a .n) (a .buffer .now) ++ z)
-      (entry-of _ _ _ _ _ (own-receipt roster s w (a .shape .size) (a .at) (a .shape .records) (a .k) (p .5) (p .6) (p .1) (bytesOf (a .pointer))
-      (commit-within _ _ _ (p .0 .counted .laid) _ (p .3) (p .0 .commit)) (p .4) signed) leaf message))
+          ∙ ap (λ z. heldIn (a .n) (a .buffer .now) ++ z)
+          (entry-of _ _ _ _ _ (own-receipt roster s w (a .shape .size) (a .at) (a .shape .records) (a .k) (p .5) (p .6) (p .1) (bytesOf (a .pointer))
+          (commit-within _ _ _ (p .0 .counted .laid) _ (p .3) (p .0 .commit)) (p .4) signed) leaf message),
+    )
 
 pub add-receipt-spec : {M : Type 1} → statement M
 add-receipt-spec =

@@ -27,9 +27,10 @@ u16-at-requires c κs = omega arith
 returns : tie.Need-returns
 returns c =
     let start = c .before .before .before .before .before in
-    let a = start .args in
-    (omega arith,
-      no-entry _ _ (no-stamp (a .roster .now) (a .s .now) (a .width) (a .k) (a .stamp) (λ e. c .if1 .taken (c .before .u16-at .ensures .0 ∙ e))))
+    let a = start .args in (
+      omega arith,
+      no-entry _ _ (no-stamp (a .roster .now) (a .s .now) (a .width) (a .k) (a .stamp) (λ e. c .if1 .taken (c .before .u16-at .ensures .0 ∙ e))),
+    )
 
 number-at-requires : tie.Need-number-at-requires
 unfolding ballotSize
@@ -68,12 +69,13 @@ returns-2 c =
     let room : length (put .put-place-statement .last .0) ≡ 71 = search needs in
     let done = put .put-place-statement .ensures in
     let message = padded-put _ _ _ (omega (arith, room, done .0, written-inside _ _ _ _ (done .0) (done .1))) (done .0) (done .1)
-    ∙ ap (λ (t : ℕ). padded (placeStatement 1 (cluster roster) (a .width) t (a .stamp .index) (bytesOf (a .stamp .pointer)))) (read .number-at .ensures .0) in
-    (omega (arith, c .before .before .add-use .ensures .0),
+    ∙ ap (λ (t : ℕ). padded (placeStatement 1 (cluster roster) (a .width) t (a .stamp .index) (bytesOf (a .stamp .pointer)))) (read .number-at .ensures .0) in (
+      omega (arith, c .before .before .add-use .ensures .0),
       c .before .before .add-use .ensures .1
-      ∙ ap (λ z. heldIn (a .n) (a .buffer .now) ++ z)
-      (entry-of _ _ _ _ _ (own-stamp roster s (a .width) (a .k) (a .stamp) (sym (tested .before .u16-at .ensures .0) ∙ tested .if1 .left))
-      (put .before .before .before .u32-at .ensures .0) message))
+          ∙ ap (λ z. heldIn (a .n) (a .buffer .now) ++ z)
+          (entry-of _ _ _ _ _ (own-stamp roster s (a .width) (a .k) (a .stamp) (sym (tested .before .u16-at .ensures .0) ∙ tested .if1 .left))
+          (put .before .before .before .u32-at .ensures .0) message),
+    )
 
 pub add-stamp-spec : {M : Type 1} → statement M
 add-stamp-spec =

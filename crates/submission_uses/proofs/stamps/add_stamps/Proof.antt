@@ -133,20 +133,21 @@ loop-again c =
       omega (arith, l .inv .2, put .ensures .0),
       put .kept .1 .1 .1 .1 .1 .0 ∙ l .inv .3,
       λ wide.
-      let left = l .inv .4 wide in
-      let place = not-last (a .roster .now) (a .s .now) w S _ (l .left) (l .at) (l .stamp)
-      (checked (a .roster .now) (a .s .now) w S (a .k) wide _ _ now (l .left) (l .at) (l .stamp) left (omega arith)) (omega arith) (omega arith) _ _ _
-      next (valued .before .u32-at .ensures .0) (valued .value-at .ensures) in
-      stamp-put (a .roster .now) (a .s .now) w S (a .k) wide _ _ now (l .left) (l .at) (l .stamp) left (omega arith) _ _ (place .0) (place .1) (put .ensures .1),
+          let left = l .inv .4 wide in
+          let place = not-last (a .roster .now) (a .s .now) w S _ (l .left) (l .at) (l .stamp)
+          (checked (a .roster .now) (a .s .now) w S (a .k) wide _ _ now (l .left) (l .at) (l .stamp) left (omega arith)) (omega arith) (omega arith) _ _ _
+          next (valued .before .u32-at .ensures .0) (valued .value-at .ensures) in
+          stamp-put (a .roster .now) (a .s .now) w S (a .k) wide _ _ now (l .left) (l .at) (l .stamp) left (omega arith) _ _ (place .0) (place .1) (put .ensures .1),
     )
 
 returns : tie.Need-returns Inv-loop μ-loop
 returns c =
     let l = c .before .before .loop in
     let start = c .before .before .before .before .before .before in
-    let a = start .args in
-    (omega (arith, l .inv .2),
-      none-to-put (a .roster .now) (a .s .now) (a .shape .width) (a .shape .size) (a .k) (start .pre .1) _ _ _ (l .left) (l .at) (l .stamp) (l .inv .4 (start .pre .1)) (omega arith))
+    let a = start .args in (
+      omega (arith, l .inv .2),
+      none-to-put (a .roster .now) (a .s .now) (a .shape .width) (a .shape .size) (a .k) (start .pre .1) _ _ _ (l .left) (l .at) (l .stamp) (l .inv .4 (start .pre .1)) (omega arith),
+    )
 
 records-fit : tie.Need-cast-t26 Inv-loop μ-loop
 records-fit c =
@@ -185,9 +186,10 @@ returns-2 c =
     let as-checked = checked (a .roster .now) (a .s .now) w S (a .k) wide _ _ now (l .left) (l .at) (l .stamp) left (omega arith) in
     let end = is-last (a .roster .now) (a .s .now) w S _ (l .left) (l .at) (l .stamp) as-checked (omega arith) (omega arith) in
     let last = stamp-put (a .roster .now) (a .s .now) w S (a .k) wide _ _ now (l .left) (l .at) (l .stamp) left (omega arith) _ _
-    (ap length end ∙ length-records w (a .shape .records) (a .s .now)) (p .2 ∙ ap (pointer (withTerms w [])) (sym end)) (put .ensures .1) in
-    (omega (arith, l .inv .2, put .ensures .0),
-      none-to-put (a .roster .now) (a .s .now) w S (a .k) wide _ _ _ _ _ _ last (omega arith))
+    (ap length end ∙ length-records w (a .shape .records) (a .s .now)) (p .2 ∙ ap (pointer (withTerms w [])) (sym end)) (put .ensures .1) in (
+      omega (arith, l .inv .2, put .ensures .0),
+      none-to-put (a .roster .now) (a .s .now) w S (a .k) wide _ _ _ _ _ _ last (omega arith),
+    )
 
 pub add-stamps-spec : {M : Type 1} → statement M
 add-stamps-spec =

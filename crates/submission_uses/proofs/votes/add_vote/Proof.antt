@@ -42,9 +42,10 @@ returns c =
     let each : (i : ℕ) → getD s i 0 < 256 = λ i. sized .before .before .shared-slice-known2 .given i .fits in
     let mask = c .before .before .u16-at .ensures .0 ∙ ap (λ (j : ℕ). numberAt 2 s (a .at + j)) (sized .ballot-size .ensures .0) in
     let unsigned = ap (λ (m : ℕ). signer m (a .k)) (sym mask) ∙ sym (c .before .signer .ensures) ∙ not-true _ (c .if1 .taken) in
-    let head = certificate-head (a .width) (a .size) s (a .at) in
-    (omega arith,
-      no-entry _ _ (no-vote (a .roster .now) s (a .width) (a .size) (a .at) (a .k) (p .6) (p .7) (p .2) (bytes-each s each) (omega (arith, head, p .4)) unsigned))
+    let head = certificate-head (a .width) (a .size) s (a .at) in (
+      omega arith,
+      no-entry _ _ (no-vote (a .roster .now) s (a .width) (a .size) (a .at) (a .k) (p .6) (p .7) (p .2) (bytes-each s each) (omega (arith, head, p .4)) unsigned),
+    )
 
 add-signature-place : tie.Need-add-signature-place
 unfolding certificateEnd
@@ -119,11 +120,12 @@ returns-2 c =
     ∙ ap (λ (j : ℕ). padded (3 ∷ cluster roster ++ take j (drop (a .at) s))) count in
     let place = put .before .before .before .before .before .signature-place .ensures
     ∙ (λ i. signaturePlace (mask i) (a .k) (a .size) (a .at + fields i + 2)) in
-    let leaf = put .before .before .before .before .u32-at .ensures .0 ∙ ap (numberAt 4 s) place in
-    (omega (arith, c .before .before .add-use .ensures .0),
+    let leaf = put .before .before .before .before .u32-at .ensures .0 ∙ ap (numberAt 4 s) place in (
+      omega (arith, c .before .before .add-use .ensures .0),
       c .before .before .add-use .ensures .1
-      ∙ ap (λ z. heldIn (a .n) (a .buffer .now) ++ z)
-      (entry-of _ _ _ _ _ (own-vote roster s (a .width) (a .size) (a .at) (a .k) (p .6) (p .7) (p .2) (bytes-each s each) (omega (arith, head, p .4)) signed) leaf message))
+          ∙ ap (λ z. heldIn (a .n) (a .buffer .now) ++ z)
+          (entry-of _ _ _ _ _ (own-vote roster s (a .width) (a .size) (a .at) (a .k) (p .6) (p .7) (p .2) (bytes-each s each) (omega (arith, head, p .4)) signed) leaf message),
+    )
 
 pub add-vote-spec : {M : Type 1} → statement M
 add-vote-spec =

@@ -1,0 +1,25 @@
+-- The uses of a replica's leaves in two accepted submissions, and the row that they give (document 02, W5).
+use mathlib.Core.List.{List, _++_}
+use mathlib.Core.Option.{Option}
+use Prim.Native.Nat.{ℕ, _≤_}
+use Rattle.lm_format.specs.Uses.{Use}
+use Rattle.replica.specs.Charges.{Charge}
+use Rattle.submission.specs.View.{slots}
+use Rattle.submission.specs.Validate.{uses}
+use Rattle.submission_parts.specs.Shapes.{viewIn}
+use Rattle.submission_signatures.specs.Checked.{Checked, PointersIn}
+use Rattle.submission_uses.specs.Signed.{useIn}
+use Rattle.forensics.specs.Findings.{leafCharges, lowest}
+use Rattle.forensics_find.specs.declared.Side.{Side}
+
+-- the side of a submission that is accepted
+pub record Known (roster s : List ℕ) (x : Side) : Type 0 where
+  pub checked : Checked roster (x .shape) s
+  pub pointed : PointersIn (x .shape) s (x .pointers)
+  pub wide : 4 ≤ x .shape .size
+
+unfoldable pub sideUses : List ℕ → List ℕ → Side → ℕ → List Use
+sideUses roster s x k = uses (useIn (x .shape .width) roster) k (slots (x .shape .size) (viewIn (x .shape) s))
+
+unfoldable pub leafRow : List ℕ → List ℕ → List ℕ → Side → Side → ℕ → Option Charge
+leafRow roster a b x y k = lowest (leafCharges (sideUses roster a x k ++ sideUses roster b y k))
