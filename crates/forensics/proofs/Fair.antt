@@ -76,7 +76,7 @@ module _ (form : Form) (n : ℕ) where
       (x : Slot) → List·Memᴰ x xs → x .replica ≡ k → List·Memᴰ (asUse x) (map (useIn form) (signed first acts))
 
   pub fair-leaves : (asUse : Slot → Use) (k : ℕ) (xs : List Slot) (acts : List Act) → keeps form n first acts ≡ true → Used asUse k xs acts
-      → leafCharges (uses asUse k xs) ≡ []
+      → leafCharges (uses asUse k xs) (uses asUse k xs) ≡ []
   unfolding leafCharges NeverCharged
   fair-leaves asUse k xs acts e used =
       let own : (u : Use) → List·Memᴰ u (uses asUse k xs) → (z : Signing) × List·Memᴰ z (signed first acts) × (useIn form z ≡ u) =

@@ -31,13 +31,13 @@ says k (x ∷ xs) = cond (eqb (x .replica) k) (x .claim ∷ says k xs) (says k x
 unfoldable pub charges : ℕ → List Slot → List Slot → List Charge
 charges k xs ys = flatMap (λ c. flatMap (clash c) (says k ys)) (says k xs)
 
--- rule 5 (document 02, W5): what two of some uses of a replica's leaves break
-unfoldable pub leafCharges : List Use → List Charge
-leafCharges us = flatMap (λ x. flatMap (leafClash x) us) us
+-- rule 5 (document 02, W5): what one use of a replica's leaves and another break
+unfoldable pub leafCharges : List Use → List Use → List Charge
+leafCharges us vs = flatMap (λ x. flatMap (leafClash x) vs) us
 
 -- all rules; rule 5 wherever two of its signatures stand, by the use of a leaf that each is
 unfoldable pub allCharges : (Slot → Use) → ℕ → List Slot → List Slot → List Charge
-allCharges asUse k xs ys = charges k xs ys ++ leafCharges (uses asUse k (xs ++ ys))
+allCharges asUse k xs ys = let us = uses asUse k (xs ++ ys) in charges k xs ys ++ leafCharges us us
 
 -- ---- the rows
 

@@ -55,7 +55,7 @@ module _ (b : List ℕ) (n : ℕ) where
   charged x = flatMap (leafClash x) (heldIn n b)
 
   pub record UsesLeft (i : ℕ) (best : Option Charge) : Type 0 where
-    pub answer : least best (lowest (flatMap charged (heldIn (n - i) (drop (entrySize * i) b)))) ≡ lowest (leafCharges (heldIn n b))
+    pub answer : least best (lowest (flatMap charged (heldIn (n - i) (drop (entrySize * i) b)))) ≡ lowest (leafCharges (heldIn n b) (heldIn n b))
 
   pub uses-all : {best : Option Charge} → best ≡ lowest [] → UsesLeft 0 best
   unfolding leafCharges lowest least
@@ -77,7 +77,7 @@ module _ (b : List ℕ) (n : ℕ) where
             ∙ rw (left-first b n i more) at (left .answer));
       }
 
-  pub uses-done : (i : ℕ) {best : Option Charge} → UsesLeft i best → n ≤ i → best ≡ lowest (leafCharges (heldIn n b))
+  pub uses-done : (i : ℕ) {best : Option Charge} → UsesLeft i best → n ≤ i → best ≡ lowest (leafCharges (heldIn n b) (heldIn n b))
   unfolding heldIn flatMap lowest
   uses-done i {best} left h =
       let none-left : n - i ≡ 0 = omega arith in
@@ -98,7 +98,7 @@ unfolding flatMap
 against-padded x [] = refl
 against-padded x (y ∷ ys) = λ i. clash-padded x y i ++ against-padded x ys i
 
-pub charges-padded : (us : List Use) → leafCharges (map paddedUse us) ≡ leafCharges us
+pub charges-padded : (us : List Use) → leafCharges (map paddedUse us) (map paddedUse us) ≡ leafCharges us us
 unfolding leafCharges flatMap
 charges-padded us = go us
   where

@@ -11,7 +11,8 @@ use leaf_uses::ENTRY_SIZE;
 // The row of a replica from n uses: the lowest leaf that has two messages.
 pub fn leaf_row(buffer: &[u8], n: usize) -> Row
     requires { ⌜ entrySize * n ≤ length (now buffer) ⌝ }
-    ensures { λ r. ⌜ inner.chargeOf r ≡ lowest (leafCharges (heldIn n (now (buffer .entry)))) ⌝ }
+    ensures { λ r. ⌜ inner.chargeOf r ≡ lowest (leafCharges (heldIn n (now (buffer .entry)))
+        (heldIn n (now (buffer .entry)))) ⌝ }
 {
     let mut best = super::unnamed_row();
     let mut i = 0;

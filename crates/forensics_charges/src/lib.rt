@@ -31,8 +31,8 @@ pub struct Receipt {
     pub signers: u16,
 }
 
-// A row of the report: the rule and the term, both 0 for a replica that is not named. For rule 5 the term is a
-// leaf's number.
+// A row of the report: the rule and the term, both 0 for a replica that is not named. For rule 5 the term is
+// a leaf's number.
 pub struct Row {
     pub rule: u8,
     pub term: u64,

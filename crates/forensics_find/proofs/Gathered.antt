@@ -19,6 +19,6 @@ few-leaders roster s x k =
     rw (known-leaders _ _ known) (known .bounds .leaders)
 
 pub both-gathered : (first second : List Use) {one both : List Use} → one ≡ [] ++ map paddedUse first → both ≡ one ++ map paddedUse second
-    → leafCharges both ≡ leafCharges (first ++ second)
+    → leafCharges both both ≡ leafCharges (first ++ second) (first ++ second)
 both-gathered first second e d =
-    ap leafCharges (d ∙ ap (λ z. z ++ map paddedUse second) e ∙ sym (map-append paddedUse first second)) ∙ charges-padded (first ++ second)
+    ap (λ z. leafCharges z z) (d ∙ ap (λ z. z ++ map paddedUse second) e ∙ sym (map-append paddedUse first second)) ∙ charges-padded (first ++ second)

@@ -89,11 +89,12 @@ module _ (roster a b : List ℕ) (first : Facts roster a) (second : Facts roster
   module _ (x y : Side) (ex : x .shape ≡ shapeOf (formOf roster .termBytes) (signatureSize roster) a)
       (ey : y .shape ≡ shapeOf (formOf roster .termBytes) (signatureSize roster) b) where
     leaf-row : (k : ℕ) → leafRow roster a b x y k
-        ≡ lowest (leafCharges (uses (slotUse (formOf roster) roster) k (slots (signatureSize roster) (viewOf roster a) ++ slots (signatureSize roster) (viewOf roster b))))
+        ≡ let us = uses (slotUse (formOf roster) roster) k (slots (signatureSize roster) (viewOf roster a) ++ slots (signatureSize roster) (viewOf roster b)) in
+        lowest (leafCharges us us)
     unfolding leafRow sideUses shapeOf viewOf formOf version1
     leaf-row k =
         rw (ex, ey)
-        (ap (λ us. lowest (leafCharges us)) (sym (uses-append (slotUse (formOf roster) roster) k (slots (signatureSize roster) (viewOf roster a)) (slots (signatureSize roster) (viewOf roster b)))))
+        (ap (λ us. lowest (leafCharges us us)) (sym (uses-append (slotUse (formOf roster) roster) k (slots (signatureSize roster) (viewOf roster a)) (slots (signatureSize roster) (viewOf roster b)))))
 
     module _ (ruled : Findings) (rows : List Row) (four : findingsOf ruled ≡ read (formOf roster .termBytes) (signatureSize roster) a b)
         (five : map chargeOf rows ≡ rowsBy (λ k. least (rowAt (ruled .rows) k) (leafRow roster a b x y k)) 9 1) where
@@ -122,7 +123,8 @@ module _ (roster a b : List ℕ) (first : Facts roster a) (second : Facts roster
         where
           all-lowest : (k : ℕ) → lowest (allCharges (slotUse (formOf roster) roster) k (slots (signatureSize roster) (viewOf roster a)) (slots (signatureSize roster) (viewOf roster b)))
               ≡ least (lowest (charges k (slots (signatureSize roster) (viewOf roster a)) (slots (signatureSize roster) (viewOf roster b))))
-              (lowest (leafCharges (uses (slotUse (formOf roster) roster) k (slots (signatureSize roster) (viewOf roster a) ++ slots (signatureSize roster) (viewOf roster b)))))
+              (let us = uses (slotUse (formOf roster) roster) k (slots (signatureSize roster) (viewOf roster a) ++ slots (signatureSize roster) (viewOf roster b)) in
+              lowest (leafCharges us us))
           all-lowest k = lowest-append (charges k (slots (signatureSize roster) (viewOf roster a)) (slots (signatureSize roster) (viewOf roster b))) _
 
 -- ---- what the leaves are gathered from

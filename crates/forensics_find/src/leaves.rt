@@ -1,19 +1,20 @@
-// Rule 5: the leaves of each replica's signatures in two accepted submissions (document 02, W5), over the term's
-// width.
+// Rule 5: the leaves of each replica's signatures in two accepted submissions (document 02, W5), over the
+// term's width.
 ghost use mathlib.Core.Path.{_≡_};
 ghost use mathlib.Core.List.{map};
 ghost use Prim.Native.Nat.{_-_, _*_, _≤_, _<_};
 ghost use lib.ListN.{length, getD};
 ghost use Rattle.leaf_uses.specs.Held.{entrySize};
+ghost use Rattle.submission_uses.specs.Signed.{maskBits};
 ghost use Rattle.forensics_charges.specs.Charges as inner;
-ghost use Rattle.forensics_find.specs.Leaves.{Known, leafRow};
+ghost use Rattle.forensics_find.specs.Leaves.{useMost, Known, leafRow};
 use super::Side;
 use forensics_charges::Row;
 use leaf_uses::ENTRY_SIZE;
 
-// The most signatures of a replica in two submissions: a vote and a stamp for each of 64 terms, and a receipt,
-// in each.
-pub const USE_MOST: usize = 258;
+// The most signatures of a replica in two submissions: in each a vote and a stamp for each of 64 terms, and
+// a receipt.
+const USE_MOST: usize = 2 * (2 * submission_trailer::LEADER_MOST + 1);
 
 // The row of replica k, by its leaves.
 fn replica_row(
@@ -25,8 +26,8 @@ fn replica_row(
     k: usize,
     buffer: &mut [u8],
 ) -> Row
-    requires { ⌜ Known (now roster) (now a) one × Known (now roster) (now b) other × (0 < k) × (k ≤ 16)
-        × (entrySize * 258 ≤ length (now buffer)) ⌝ }
+    requires { ⌜ Known (now roster) (now a) one × Known (now roster) (now b) other × (0 < k) × (k ≤ maskBits)
+        × (entrySize * useMost ≤ length (now buffer)) ⌝ }
     ensures { λ r. ⌜ inner.chargeOf r
         ≡ leafRow (now (roster .entry)) (now (a .entry)) (now (b .entry)) one other k ⌝ }
 {

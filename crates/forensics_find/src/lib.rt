@@ -21,7 +21,8 @@ pub mod leaves;
 pub mod rows;
 pub mod tenures;
 
-// What is known of an accepted submission: its shape, and the pointers of its committed records and of its log.
+// What is known of an accepted submission: its shape, and the pointers of its committed records and of its
+// log.
 pub struct Side {
     pub shape: Shape,
     pub pointers: LogPointers,

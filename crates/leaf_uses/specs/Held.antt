@@ -8,9 +8,13 @@ use Rattle.words.specs.BigEndian.{numberAt}
 use Rattle.lm_format.specs.Uses.{Use, useOf, reused}
 use Rattle.submission.specs.Sizes.{statementMost}
 
+-- the bytes of a leaf's number
+abbrev pub leafSize : ℕ
+leafSize = 4
+
 -- the bytes of an entry
 abbrev pub entrySize : ℕ
-entrySize = 4 + (1 + statementMost)
+entrySize = leafSize + (1 + statementMost)
 
 -- a message in its entry; different messages are different there too
 unfoldable pub padded : List ℕ → List ℕ

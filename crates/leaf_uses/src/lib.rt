@@ -1,5 +1,5 @@
-// Uses of leaves in a lent buffer, one entry after the other: the leaf's number, the length of its message, the
-// message with zeros after it (document 02, W5).
+// Uses of leaves in a lent buffer, one entry after the other: the leaf's number, the length of its message,
+// and the message with zeros after it (document 02, W5).
 ghost use mathlib.Core.Path.{_≡_};
 ghost use mathlib.Core.List.{[], _∷_, _++_};
 ghost use Prim.Native.Nat.{_+_, _*_, _≤_, _<_};

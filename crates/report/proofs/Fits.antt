@@ -104,7 +104,7 @@ module _ (form : Form) where
         clash-fits (first .0) (second .0) (subst (ClaimFits form) (sym (x .3)) (fx (x .0) (x .1)))
         (subst (ClaimFits form) (sym (y .3)) (fy (y .0) (y .1))) c (second .2)
 
-    leaves-fit : (k : ℕ) (c : Charge) → List·Memᴰ c (leafCharges (uses asUse k (xs ++ ys))) → Fits c
+    leaves-fit : (k : ℕ) (c : Charge) → List·Memᴰ c (leafCharges (uses asUse k (xs ++ ys)) (uses asUse k (xs ++ ys))) → Fits c
     unfolding leafCharges leafClash
     leaves-fit k c m =
         let us = uses asUse k (xs ++ ys) in

@@ -7,6 +7,10 @@ use Rattle.lm_format.specs.Uses.{Use}
 use Rattle.submission.specs.View.{Slot}
 use Rattle.submission.specs.Validate.{slotUse}
 
+-- the bits of a mask
+abbrev pub maskBits : ℕ
+maskBits = 16
+
 -- how many of the first i bits are ones
 unfoldable pub onesBelow : ℕ → ℕ → ℕ
 onesBelow zero mask = 0

@@ -14,5 +14,6 @@ use Rattle.submission_uses.specs.declared.StampPart.{StampPart}
 unfoldable pub stampUses : List ℕ → List ℕ → ℕ → ℕ → StampPart → List Use
 stampUses roster s w k x =
     let at = x .certificate in
-    let message = placeStatement 1 (cluster roster) w (numberAt w s (at + 2)) (x .index) (bytesOf (x .pointer)) in
+    let term = numberAt w s (at + 2) in
+    let message = placeStatement 1 (cluster roster) w term (x .index) (bytesOf (x .pointer)) in
     cond (eqb (numberAt 2 s at) k) (useOf (numberAt 4 s (x .signature)) message ∷ []) []

@@ -1,5 +1,5 @@
-// A replica's signatures in a submission, in the order of its layout: the leaf of each and its message, put one
-// after the other into a lent buffer (document 02, W5), over the term's width.
+// A replica's signatures in a submission, in the order of its layout: the leaf of each and its message, put
+// one after the other into a lent buffer (document 02, W5), over the term's width.
 ghost use mathlib.Core.Path.{_≡_};
 ghost use mathlib.Core.List.{_++_, map};
 ghost use Prim.Native.Nat.{_+_, _*_, _≤_, _<_};
@@ -9,7 +9,7 @@ ghost use Rattle.roster.specs.Sizes.{signatureMost};
 ghost use Rattle.submission.specs.Validate.{uses, submissionMost};
 ghost use Rattle.submission_parts.specs.Shapes.{viewIn};
 ghost use Rattle.submission_signatures.specs.Checked.{Checked, PointersIn};
-ghost use Rattle.leaf_uses.specs.Held.{entrySize, paddedUse, heldIn};
+ghost use Rattle.leaf_uses.specs.Held.{leafSize, entrySize, paddedUse, heldIn};
 ghost use Rattle.submission_uses.specs.Signed as inner;
 use log_terms::LogPointers;
 use sha256::State;
@@ -30,7 +30,7 @@ pub struct StampPart {
 
 // The place of replica k's signature among those of a mask's replicas, from a place on.
 pub fn signature_place(mask: u16, k: usize, size: usize, from: usize) -> usize
-    requires { ⌜ (0 < k) × (k ≤ 16) × (size ≤ signatureMost) × (from ≤ submissionMost) ⌝ }
+    requires { ⌜ (0 < k) × (k ≤ inner.maskBits) × (size ≤ signatureMost) × (from ≤ submissionMost) ⌝ }
     ensures { λ r. ⌜ r ≡ inner.signaturePlace mask k size from ⌝ }
 {
     let later = u16::count_ones(mask >> (k - 1));
@@ -49,7 +49,7 @@ pub fn gather(
     n: usize,
 ) -> usize
     requires { ⌜ Checked (now roster) shape (now s) × PointersIn shape (now s) pointers
-        × (0 < k) × (k ≤ 16) × (4 ≤ shape .size)
+        × (0 < k) × (k ≤ inner.maskBits) × (leafSize ≤ shape .size)
         × (entrySize * (n + (shape .leaders + shape .leaders + 1)) ≤ length (now buffer)) ⌝ }
     ensures few { λ r. ⌜ r ≤ n + (shape .leaders + shape .leaders + 1) ⌝ }
     ensures uses { λ r. ⌜ heldIn r (now (buffer .exit)) ≡ heldIn n (now (buffer .entry))

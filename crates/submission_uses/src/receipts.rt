@@ -12,8 +12,8 @@ ghost use Rattle.submission.specs.View.{receiptsOf};
 ghost use Rattle.submission.specs.Reading.{commitAt, commitFrom, commitOf};
 ghost use Rattle.submission.specs.Validate.{uses};
 ghost use Rattle.submission_signatures.specs.Checked.{Checked};
-ghost use Rattle.leaf_uses.specs.Held.{entrySize, paddedUse, heldIn};
-ghost use Rattle.submission_uses.specs.Signed.{useIn};
+ghost use Rattle.leaf_uses.specs.Held.{leafSize, entrySize, paddedUse, heldIn};
+ghost use Rattle.submission_uses.specs.Signed.{maskBits, useIn};
 use log_chain::RECEIPT;
 use sha256::State;
 use submission::COMMIT_FIELDS_SIZE;
@@ -21,8 +21,8 @@ use submission::COMMIT_SIGNERS_AT;
 use submission::STATEMENT_MOST;
 use submission_parts::Shape;
 
-// Puts replica k's receipt of the commit certificate at a place, where it is a signer, from the pointer of the
-// record that it names.
+// Puts replica k's receipt of the commit certificate at a place, where it is a signer, from the pointer of
+// the record that it names.
 pub fn add_receipt(
     roster: &[u8],
     s: &[u8],
@@ -33,12 +33,12 @@ pub fn add_receipt(
     buffer: &mut [u8],
     n: usize,
 ) -> usize
-    requires { ⌜ Checked (now roster) shape (now s) × (4 ≤ shape .size)
+    requires { ⌜ Checked (now roster) shape (now s) × (leafSize ≤ shape .size)
         × (at ≡ commitFrom (shape .width) (shape .size) (now s))
         × (commitOf (shape .width) (shape .size) (now s) ≡ some (commitAt (now s) at))
         × (bytesOf pointer ≡ chain.pointer (chain.withTerms (shape .width) []) (recordsOf (shape .width)
         (numberAt 4 (now s) at) (now s)))
-        × (0 < k) × (k ≤ 16) × (entrySize * (n + 1) ≤ length (now buffer)) ⌝ }
+        × (0 < k) × (k ≤ maskBits) × (entrySize * (n + 1) ≤ length (now buffer)) ⌝ }
     ensures few { λ r. ⌜ r ≤ n + 1 ⌝ }
     ensures uses { λ r. ⌜ heldIn r (now (buffer .exit)) ≡ heldIn n (now (buffer .entry))
         ++ map paddedUse (uses (useIn (shape .width) (now (roster .entry))) k

@@ -13,7 +13,7 @@ ghost use Rattle.submission.specs.Reading.{ballotSize};
 ghost use Rattle.submission.specs.Validate.{uses};
 ghost use Rattle.submission_parts.specs.Shapes.{viewIn};
 ghost use Rattle.submission_signatures.specs.Checked.{Checked};
-ghost use Rattle.leaf_uses.specs.Held.{entrySize, paddedUse, heldIn};
+ghost use Rattle.leaf_uses.specs.Held.{leafSize, entrySize, paddedUse, heldIn};
 ghost use Rattle.submission_uses.specs.Signed.{useIn};
 ghost use Rattle.submission_uses.specs.StampUses.{stampUses};
 use super::StampPart;
@@ -34,7 +34,8 @@ fn add_stamp(
     n: usize,
 ) -> usize
     requires { ⌜ (rosterNumber (now roster) ≡ 0) × (width ≤ widthMost)
-        × (stamp .certificate + ballotSize width ≤ length (now s)) × (stamp .signature + 4 ≤ length (now s))
+        × (stamp .certificate + ballotSize width ≤ length (now s))
+        × (stamp .signature + leafSize ≤ length (now s))
         × (entrySize * (n + 1) ≤ length (now buffer)) ⌝ }
     ensures few { λ r. ⌜ r ≤ n + 1 ⌝ }
     ensures uses { λ r. ⌜ heldIn r (now (buffer .exit)) ≡ heldIn n (now (buffer .entry))
@@ -70,7 +71,7 @@ pub fn add_stamps(
     buffer: &mut [u8],
     n: usize,
 ) -> usize
-    requires { ⌜ Checked (now roster) shape (now s) × (4 ≤ shape .size)
+    requires { ⌜ Checked (now roster) shape (now s) × (leafSize ≤ shape .size)
         × (bytesOf pointer ≡ chain.pointer (chain.withTerms (shape .width) []) (recordsOf (shape .width)
         (shape .records) (now s)))
         × (entrySize * (n + shape .leaders) ≤ length (now buffer)) ⌝ }

@@ -11,8 +11,8 @@ ghost use Rattle.submission.specs.Validate.{uses, submissionMost};
 ghost use Rattle.submission_parts.specs.Shapes.{viewIn};
 ghost use Rattle.submission_signatures.specs.Votes.{ballots};
 ghost use Rattle.submission_signatures.specs.Checked.{Checked};
-ghost use Rattle.leaf_uses.specs.Held.{entrySize, paddedUse, heldIn};
-ghost use Rattle.submission_uses.specs.Signed.{useIn};
+ghost use Rattle.leaf_uses.specs.Held.{leafSize, entrySize, paddedUse, heldIn};
+ghost use Rattle.submission_uses.specs.Signed.{maskBits, useIn};
 use log_chain::VOTE;
 use submission::SIGNERS_SIZE;
 use submission::STATEMENT_MOST;
@@ -29,9 +29,10 @@ fn add_vote(
     buffer: &mut [u8],
     n: usize,
 ) -> usize
-    requires { ⌜ (rosterNumber (now roster) ≡ 0) × (width ≤ widthMost) × (4 ≤ size) × (size ≤ signatureMost)
+    requires { ⌜ (rosterNumber (now roster) ≡ 0) × (width ≤ widthMost) × (leafSize ≤ size)
+        × (size ≤ signatureMost)
         × (certificateEnd width size (now s) at ≤ length (now s)) × (length (now s) ≤ submissionMost)
-        × (0 < k) × (k ≤ 16) × (entrySize * (n + 1) ≤ length (now buffer)) ⌝ }
+        × (0 < k) × (k ≤ maskBits) × (entrySize * (n + 1) ≤ length (now buffer)) ⌝ }
     ensures few { λ r. ⌜ r ≤ n + 1 ⌝ }
     ensures uses { λ r. ⌜ heldIn r (now (buffer .exit)) ≡ heldIn n (now (buffer .entry))
         ++ map paddedUse (uses (useIn width (now (roster .entry))) k
@@ -63,7 +64,7 @@ pub fn add_votes(
     buffer: &mut [u8],
     n: usize,
 ) -> usize
-    requires { ⌜ Checked (now roster) shape (now s) × (0 < k) × (k ≤ 16) × (4 ≤ shape .size)
+    requires { ⌜ Checked (now roster) shape (now s) × (0 < k) × (k ≤ maskBits) × (leafSize ≤ shape .size)
         × (entrySize * (n + shape .leaders) ≤ length (now buffer)) ⌝ }
     ensures few { λ r. ⌜ r ≤ n + shape .leaders ⌝ }
     ensures uses { λ r. ⌜ heldIn r (now (buffer .exit)) ≡ heldIn n (now (buffer .entry))
