@@ -105,6 +105,28 @@ fn positions() {
     assert_eq!(alone, none);
 }
 
+/// A replica that used one leaf for two messages is named without a fork, also where a refused
+/// submission stands between; with one of the two alone, or refused, nobody is.
+#[test]
+fn one_leaf() {
+    let [roster, first, second] =
+        ["roster", "first", "second"].map(|file| sample("one_leaf", file));
+    let mut damaged = first.clone();
+    damaged[36 + 48 + 100] ^= 1;
+    for (given, named) in [
+        (vec![first.clone(), second.clone()], vec![2]),
+        (vec![second.clone(), first.clone()], vec![2]),
+        (vec![first.clone(), damaged.clone(), second.clone()], vec![2]),
+        (vec![damaged, second.clone()], vec![]),
+        (vec![first.clone(), first], vec![]),
+        (vec![second.clone(), second], vec![]),
+    ] {
+        let found = district(&roster, &slices(&given)).expect("a run");
+        assert_eq!((found.fork, &found.named), (None, &named));
+        assert_eq!(found, by_pairs(&roster, &given));
+    }
+}
+
 /// From two submissions to nine; fewer or more are refused, but for a roster that is refused first.
 #[test]
 fn counts() {

@@ -50,14 +50,16 @@ fn samples() {
     }
 }
 
-/// What the rules' lines mean: rules 1 to 3 in the samples, 4 with the submissions exchanged.
+/// What the rules' lines mean: rules 1 to 3 in the samples, 4 with the submissions exchanged (5 is in
+/// `one_leaf`).
 #[test]
 fn rules() {
     let [roster, first, second] = sample("stale_leader");
     let exchanged = [roster, second, first];
     expect(&exchanged, "refusal 0 in 0\nfork 1\nboard 2 rule 4 term 2\n", 1);
     let told = |files: &[PathBuf; 3]| with_options("audit", &["--explain"], files).unfolded();
-    let one = "Board 2 cast two different votes in term 2: for two candidates, or for one candidate";
+    let one =
+        "Board 2 cast two different votes in term 2: for two candidates, or for one candidate";
     assert!(told(&sample("two_requests")).contains(one));
     let two = "Board 1 stamped two logs as leader of term 1";
     assert!(told(&sample("one_leader")).contains(two));
@@ -66,6 +68,33 @@ fn rules() {
     let four = "receipt for a record, which the second submission has, and later, in term 2,";
     assert!(told(&exchanged).contains(four));
     assert!(told(&sample("empty")).contains("No board is named"));
+}
+
+/// Rule 5, whose line has a leaf's number and needs no fork: the same line with the submissions
+/// exchanged, and what it means and asks for. Each submission beside itself has one of the two
+/// messages only.
+#[test]
+fn one_leaf() {
+    let [roster, first, second] = sample("one_leaf");
+    let [r, f, s] = [&roster, &first, &second];
+    for files in [[r, f, s], [r, s, f]].map(|files| files.map(PathBuf::clone)) {
+        expect(&files, "refusal 0 in 0\nfork 0\nboard 2 rule 5 term 7\n", 1);
+        let told = with_options("audit", &["--explain"], &files).unfolded();
+        for text in [
+            "\nWhat \"board 2 rule 5 term 7\" says: Board 2 signed two different messages with leaf 7 \
+             of its key, which is for one",
+            "The number in the line is this leaf's, not a term's.",
+            "\nWhat to do: Have board 2 taken out of use",
+            "Trust no signature under its key any more: it needs a new one.",
+        ] {
+            assert!(told.contains(text), "{text}: {told}");
+        }
+        assert!(!told.contains("No board is named"), "{told}");
+    }
+    for file in [f, s] {
+        let run = expect(&[r, file, file].map(PathBuf::clone), "refusal 0 in 0\nfork 0\n", 0);
+        run.tells(&["have the same bytes", "unless by a leaf that was used twice"]);
+    }
 }
 
 /// Each number of a submission, in both places; the message names the file and the number's word.
@@ -235,7 +264,7 @@ fn districts() {
     run.tells(&[&format!("{} has that name too", quoted(s2)), "look for the roster"]);
 }
 
-/// One submission given twice: nothing can be found, and that is said.
+/// One submission given twice: nothing is found, and why is said.
 #[test]
 fn same_twice() {
     let [roster, first, _] = sample("one_leader");

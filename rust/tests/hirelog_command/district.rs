@@ -91,7 +91,7 @@ fn the_samples_lines() {
     assert!(audit.status == 1 && !audit.out.contains("fork 0\n"), "{line}: {audit:?}");
 }
 
-/// The five pairs that are samples are runs of two.
+/// The six pairs that are samples are runs of two.
 #[test]
 fn pairs() {
     for name in SAMPLES {
@@ -106,6 +106,10 @@ fn pairs() {
         assert_eq!(run.err, "", "two empty logs may have the same bytes");
     }
     assert!(explained(&sample("empty")).contains("No board is named"));
+    let told = explained(&sample("one_leaf"));
+    assert!(
+        told.contains("or two with one leaf of its key") && !told.contains("No board is named")
+    );
 }
 
 /// Each number of a submission, first, last and between; nobody is named, so the status is 2.
