@@ -13,8 +13,8 @@ use Rattle.lm_format.specs.Leaf.{leafNumber}
 use Rattle.lm_format.specs.Uses.{Use, useOf, reused}
 use Rattle.replica.specs.Charges.{Charge, charge, leafClash}
 use Rattle.forensics.specs.Findings.{leafCharges, sooner, lower, lowest}
-use Rattle.leaf_uses.specs.Held.{entrySize, paddedUse, heldIn, heldAt, reusedIn}
-use Rattle.leaf_uses.proofs.Held.{left-first, reused-padded}
+use Rattle.submission_leaves.specs.Held.{entrySize, paddedUse, heldIn, heldAt, reusedIn}
+use Rattle.submission_leaves.proofs.Held.{left-first, reused-padded}
 use Rattle.forensics_charges.specs.Charges.{least}
 use Rattle.forensics_charges.proofs.Lowest.{least-none, least-assoc, lowest-append}
 

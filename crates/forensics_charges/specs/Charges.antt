@@ -1,4 +1,4 @@
--- What the four rules charge a replica with, from terms and receipts (document 01, "The report"), and the
+-- What rules 1 to 4 charge a replica with, from terms and receipts (document 01, "The report"), and the
 -- meaning of a row.
 use mathlib.Core.Bool.{cond}
 use mathlib.Core.List.{List, [], _∷_, _++_, map, flatMap}

@@ -1,4 +1,4 @@
--- The four rules over terms and receipts (document 01, "The report"; rule 1: document 02, W4).
+-- Rules 1 to 4 over terms and receipts (document 01, "The report"; rule 1: document 02, W4).
 use mathlib.Core.Bool.{Bool}
 use mathlib.Core.List.{[], _∷_}
 use Prim.Native.Nat.{ℕ}

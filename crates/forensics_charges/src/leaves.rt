@@ -3,10 +3,10 @@ ghost use mathlib.Core.Path.{_≡_};
 ghost use Prim.Native.Nat.{_*_, _≤_};
 ghost use lib.ListN.{length};
 ghost use Rattle.forensics.specs.Findings.{leafCharges, lowest};
-ghost use Rattle.leaf_uses.specs.Held.{entrySize, heldIn};
+ghost use Rattle.submission_leaves.specs.Held.{entrySize, heldIn};
 ghost use Rattle.forensics_charges.specs.Charges as inner;
 use super::Row;
-use leaf_uses::ENTRY_SIZE;
+use submission_leaves::ENTRY_SIZE;
 
 // The row of a replica from n uses: the lowest leaf that has two messages.
 pub fn leaf_row(buffer: &[u8], n: usize) -> Row
@@ -18,7 +18,7 @@ pub fn leaf_row(buffer: &[u8], n: usize) -> Row
     let mut i = 0;
     while i < n {
         let leaf = words::u32_at(buffer, ENTRY_SIZE * i);
-        let row = super::charged(leaf_uses::leaf_reused(buffer, n, i), 5, leaf as u64);
+        let row = super::charged(submission_leaves::leaf_reused(buffer, n, i), 5, leaf as u64);
         best = super::lower_row(best, row);
         i += 1;
     }

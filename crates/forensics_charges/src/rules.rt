@@ -1,4 +1,4 @@
-// The four rules, on two terms or on a receipt and a term of two submissions (document 01, "The report"; rule
+// Rules 1 to 4, on two terms or on a receipt and a term of two submissions (document 01, "The report"; rule
 // 1: document 02, W4).
 ghost use mathlib.Core.Path.{_≡_};
 ghost use mathlib.Core.List.{[], _∷_};

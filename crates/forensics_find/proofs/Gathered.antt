@@ -8,7 +8,7 @@ use Rattle.lm_format.specs.Uses.{Use}
 use Rattle.submission.specs.Validate.{leaderMost}
 use Rattle.submission_parts.proofs.Shapes.{known-leaders}
 use Rattle.forensics.specs.Findings.{leafCharges}
-use Rattle.leaf_uses.specs.Held.{paddedUse}
+use Rattle.submission_leaves.specs.Held.{paddedUse}
 use Rattle.forensics_charges.proofs.LeafRows.{charges-padded}
 use Rattle.forensics_find.specs.declared.Side.{Side}
 use Rattle.forensics_find.specs.Leaves.{Known}

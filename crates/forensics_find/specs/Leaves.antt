@@ -8,7 +8,7 @@ use Rattle.submission.specs.View.{slots}
 use Rattle.submission.specs.Validate.{leaderMost, uses}
 use Rattle.submission_parts.specs.Shapes.{viewIn}
 use Rattle.submission_signatures.specs.Checked.{Checked, PointersIn}
-use Rattle.leaf_uses.specs.Held.{leafSize}
+use Rattle.submission_leaves.specs.Held.{leafSize}
 use Rattle.submission_uses.specs.Signed.{useIn}
 use Rattle.forensics.specs.Findings.{leafCharges, lowest}
 use Rattle.forensics_find.specs.declared.Side.{Side}

@@ -4,13 +4,13 @@ ghost use mathlib.Core.Path.{_≡_};
 ghost use mathlib.Core.List.{map};
 ghost use Prim.Native.Nat.{_-_, _*_, _≤_, _<_};
 ghost use lib.ListN.{length, getD};
-ghost use Rattle.leaf_uses.specs.Held.{entrySize};
+ghost use Rattle.submission_leaves.specs.Held.{entrySize};
 ghost use Rattle.submission_uses.specs.Signed.{maskBits};
 ghost use Rattle.forensics_charges.specs.Charges as inner;
 ghost use Rattle.forensics_find.specs.Leaves.{useMost, Known, leafRow};
 use super::Side;
 use forensics_charges::Row;
-use leaf_uses::ENTRY_SIZE;
+use submission_leaves::ENTRY_SIZE;
 
 // The most signatures of a replica in two submissions: in each a vote and a stamp for each of 64 terms, and
 // a receipt.

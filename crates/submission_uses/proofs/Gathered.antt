@@ -34,7 +34,7 @@ use Rattle.submission.proofs.Certificates.{certificates-first}
 use Rattle.submission_signatures.specs.Votes.{ballots}
 use Rattle.submission_signatures.proofs.Fifteen.{votes-leads}
 use Rattle.submission_signatures.proofs.Said.{vote-said}
-use Rattle.leaf_uses.specs.Held.{padded, paddedUse}
+use Rattle.submission_leaves.specs.Held.{padded, paddedUse}
 use Rattle.submission_uses.specs.Signed.{onesBelow, signaturePlace, useIn}
 use Rattle.submission_uses.proofs.Places.{uses-certified}
 

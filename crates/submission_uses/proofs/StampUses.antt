@@ -23,7 +23,7 @@ use Rattle.submission.specs.Reading.{ballotAt, certificateAt, certificateEnd, c
 use Rattle.submission.specs.Validate.{genuine, slotUse, uses}
 use Rattle.submission.proofs.Linked.{leadAt, leadsFrom, leads-first, TermsLeft, Turn}
 use Rattle.submission_signatures.proofs.StampsLeft.{StampsLeft, this}
-use Rattle.leaf_uses.specs.Held.{paddedUse}
+use Rattle.submission_leaves.specs.Held.{paddedUse}
 use Rattle.submission_uses.specs.declared.StampPart.{StampPart}
 use Rattle.submission_uses.specs.Signed.{useIn}
 use Rattle.submission_uses.specs.StampUses.{stampUses}

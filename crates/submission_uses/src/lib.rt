@@ -9,7 +9,7 @@ ghost use Rattle.roster.specs.Sizes.{signatureMost};
 ghost use Rattle.submission.specs.Validate.{uses, submissionMost};
 ghost use Rattle.submission_parts.specs.Shapes.{viewIn};
 ghost use Rattle.submission_signatures.specs.Checked.{Checked, PointersIn};
-ghost use Rattle.leaf_uses.specs.Held.{leafSize, entrySize, paddedUse, heldIn};
+ghost use Rattle.submission_leaves.specs.Held.{leafSize, entrySize, paddedUse, heldIn};
 ghost use Rattle.submission_uses.specs.Signed as inner;
 use log_terms::LogPointers;
 use sha256::State;

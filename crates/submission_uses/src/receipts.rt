@@ -12,7 +12,7 @@ ghost use Rattle.submission.specs.View.{receiptsOf};
 ghost use Rattle.submission.specs.Reading.{commitAt, commitFrom, commitOf};
 ghost use Rattle.submission.specs.Validate.{uses};
 ghost use Rattle.submission_signatures.specs.Checked.{Checked};
-ghost use Rattle.leaf_uses.specs.Held.{leafSize, entrySize, paddedUse, heldIn};
+ghost use Rattle.submission_leaves.specs.Held.{leafSize, entrySize, paddedUse, heldIn};
 ghost use Rattle.submission_uses.specs.Signed.{maskBits, useIn};
 use log_chain::RECEIPT;
 use sha256::State;
@@ -63,5 +63,5 @@ pub fn add_receipt(
         index,
         pointer,
     );
-    leaf_uses::add_use(buffer, n, leaf, length, &statement)
+    submission_leaves::add_use(buffer, n, leaf, length, &statement)
 }

@@ -13,7 +13,7 @@ ghost use Rattle.submission.specs.Reading.{ballotSize};
 ghost use Rattle.submission.specs.Validate.{uses};
 ghost use Rattle.submission_parts.specs.Shapes.{viewIn};
 ghost use Rattle.submission_signatures.specs.Checked.{Checked};
-ghost use Rattle.leaf_uses.specs.Held.{leafSize, entrySize, paddedUse, heldIn};
+ghost use Rattle.submission_leaves.specs.Held.{leafSize, entrySize, paddedUse, heldIn};
 ghost use Rattle.submission_uses.specs.Signed.{useIn};
 ghost use Rattle.submission_uses.specs.StampUses.{stampUses};
 use super::StampPart;
@@ -57,7 +57,7 @@ fn add_stamp(
         stamp.index,
         stamp.pointer,
     );
-    leaf_uses::add_use(buffer, n, leaf, length, &statement)
+    submission_leaves::add_use(buffer, n, leaf, length, &statement)
 }
 
 // Puts replica k's stamps, from the pointer of the whole log. The last record of a term stands in the next

@@ -11,7 +11,7 @@ ghost use Rattle.submission.specs.Validate.{uses, submissionMost};
 ghost use Rattle.submission_parts.specs.Shapes.{viewIn};
 ghost use Rattle.submission_signatures.specs.Votes.{ballots};
 ghost use Rattle.submission_signatures.specs.Checked.{Checked};
-ghost use Rattle.leaf_uses.specs.Held.{leafSize, entrySize, paddedUse, heldIn};
+ghost use Rattle.submission_leaves.specs.Held.{leafSize, entrySize, paddedUse, heldIn};
 ghost use Rattle.submission_uses.specs.Signed.{maskBits, useIn};
 use log_chain::VOTE;
 use submission::SIGNERS_SIZE;
@@ -52,7 +52,7 @@ fn add_vote(
         &roster[..roster::NAME_SIZE],
         &s[at..end],
     );
-    leaf_uses::add_use(buffer, n, leaf, length, &statement)
+    submission_leaves::add_use(buffer, n, leaf, length, &statement)
 }
 
 // Puts replica k's votes of the leader certificates.

@@ -11,7 +11,7 @@ use Rattle.submission.specs.Reading.{view}
 use Rattle.submission_parts.proofs.Commits.{absent-says, found-says}
 use Rattle.submission_parts.proofs.Shapes.{known-records, leader-count, stamp-count}
 use Rattle.submission_signatures.proofs.Facts.{commit-records}
-use Rattle.leaf_uses.specs.Held.{heldIn}
+use Rattle.submission_leaves.specs.Held.{heldIn}
 use Rattle.submission_uses.proofs.Gathered.{without-receipt, with-receipt}
 use Rattle.submission_uses.proofs.gather.Statement.{statement}
 use Rattle.submission_uses.proofs.gather.Tie as tie

@@ -345,7 +345,7 @@ fn board_remark(line: &str, replica: usize, files: &Files, found: &District) -> 
         advice: format!(
             "Have board {replica} taken out of use and looked at. Keep the roster and all \
              submissions as they are: they are the proof. For the rule that it broke, and the \
-             term, {which}."
+             term or leaf, {which}."
         ),
     }
 }
@@ -395,7 +395,8 @@ mod tests {
         let refusals = vec![None, Some(Refusal::Size), None, None];
         let mut found = District { refusals, named: vec![2], fork: None };
         let remark = board_remark("board 2", 2, &files, &found);
-        let told = "For the rule that it broke, and the term, audit every two of the accepted \
+        let told =
+            "For the rule that it broke, and the term or leaf, audit every two of the accepted \
             submissions 1, 3 and 4, beginning with `hirelog audit -- r -a 'b c'`.";
         assert!(remark.advice.ends_with(told), "{}", remark.advice);
         assert!(fork_remark("fork 0 0", &files, &found).advice.starts_with("Run again when"));

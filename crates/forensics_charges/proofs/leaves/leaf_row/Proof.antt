@@ -3,7 +3,7 @@
 use mathlib.Core.Path.{_∙_}
 use Prim.Native.Nat.{_-_, _≤_}
 use native.Mathlib.Omega.{arith}
-use Rattle.leaf_uses.proofs.Held.{held-number}
+use Rattle.submission_leaves.proofs.Held.{held-number}
 use Rattle.forensics_charges.specs.Charges.{chargeOf}
 use Rattle.forensics_charges.proofs.LeafRows.{UsesLeft, uses-all, uses-next, uses-done}
 use borrow.Author.Needs.{needs}

@@ -6,7 +6,7 @@ use native.Mathlib.Omega.{arith}
 use borrow.Author.Needs.{needs}
 use lib.ListN.{length}
 use Rattle.forensics.specs.Findings.{lowest}
-use Rattle.leaf_uses.specs.Held.{heldIn}
+use Rattle.submission_leaves.specs.Held.{heldIn}
 use Rattle.forensics_find.specs.Leaves.{sideUses, leafRow}
 use Rattle.forensics_find.proofs.Gathered.{few-leaders, both-gathered}
 use Rattle.forensics_find.proofs.leaves.replica_row.Statement.{statement}

@@ -19,8 +19,8 @@ use Rattle.log_chain.specs.Sizes.{placeStatement}
 use Rattle.submission.specs.Reading.{signersAt, commitEnd}
 use Rattle.submission_parts.proofs.Shapes.{records-room, upto-room}
 use Rattle.submission_signatures.proofs.Facts.{commit-within, commit-end-in}
-use Rattle.leaf_uses.specs.Held.{padded, heldIn}
-use Rattle.leaf_uses.proofs.Held.{padded-put}
+use Rattle.submission_leaves.specs.Held.{padded, heldIn}
+use Rattle.submission_leaves.proofs.Held.{padded-put}
 use Rattle.submission_uses.specs.Signed.{signaturePlace}
 use Rattle.submission_uses.proofs.Places.{leaf-inside}
 use Rattle.submission_uses.proofs.Gathered.{entry-of, no-entry, own-receipt, no-receipt}

@@ -13,8 +13,8 @@ use Rattle.roster.specs.Roster.{cluster}
 use Rattle.roster.proofs.Accepted.{name-length}
 use Rattle.log_chain.specs.Sizes.{placeStatement}
 use Rattle.submission.specs.Reading.{ballotSize}
-use Rattle.leaf_uses.specs.Held.{padded, heldIn}
-use Rattle.leaf_uses.proofs.Held.{padded-put}
+use Rattle.submission_leaves.specs.Held.{padded, heldIn}
+use Rattle.submission_leaves.proofs.Held.{padded-put}
 use Rattle.submission_uses.proofs.Gathered.{entry-of, no-entry}
 use Rattle.submission_uses.proofs.StampUses.{own-stamp, no-stamp}
 use Rattle.submission_uses.proofs.stamps.add_stamp.Statement.{statement}

@@ -19,7 +19,7 @@ use Rattle.submission.proofs.Linked.{leadsFrom}
 use Rattle.submission_parts.proofs.Shapes.{known-leads, run-count, few-records, leaders-room, stamps-room as stamps-inside}
 use Rattle.submission_signatures.proofs.Turns.{fields-room, next-fields, stamps-room}
 use Rattle.submission_signatures.proofs.StampsLeft.{not-last, is-last}
-use Rattle.leaf_uses.specs.Held.{paddedUse, heldIn}
+use Rattle.submission_leaves.specs.Held.{paddedUse, heldIn}
 use Rattle.submission_uses.specs.Signed.{useIn}
 use Rattle.submission_uses.proofs.StampUses.{StampsToPut, none-to-put, checked, stamp-put}
 use Rattle.submission_uses.proofs.stamps.add_stamps.Statement.{statement}

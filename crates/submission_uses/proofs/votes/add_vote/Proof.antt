@@ -16,8 +16,8 @@ use Rattle.roster.specs.Masks.{signer}
 use Rattle.roster.proofs.Accepted.{name-length}
 use Rattle.submission.specs.Reading.{ballotSize, signersAt, certificateEnd}
 use Rattle.submission.proofs.Certificates.{certificate-head}
-use Rattle.leaf_uses.specs.Held.{padded, heldIn}
-use Rattle.leaf_uses.proofs.Held.{padded-put}
+use Rattle.submission_leaves.specs.Held.{padded, heldIn}
+use Rattle.submission_leaves.proofs.Held.{padded-put}
 use Rattle.submission_uses.specs.Signed.{signaturePlace}
 use Rattle.submission_uses.proofs.Places.{leaf-inside}
 use Rattle.submission_uses.proofs.Gathered.{entry-of, no-entry, own-vote, no-vote}

@@ -11,7 +11,7 @@ use Rattle.submission.specs.Validate.{uses}
 use Rattle.submission.proofs.Certificates.{rest-inside, first-inside}
 use Rattle.submission_parts.proofs.Shapes.{known-certificates, leaders-room}
 use Rattle.submission_signatures.specs.Votes.{ballots}
-use Rattle.leaf_uses.specs.Held.{paddedUse, heldIn}
+use Rattle.submission_leaves.specs.Held.{paddedUse, heldIn}
 use Rattle.submission_uses.specs.Signed.{useIn}
 use Rattle.submission_uses.proofs.Gathered.{votes-next, votes-done}
 use Rattle.submission_uses.proofs.votes.add_votes.Statement.{statement}

@@ -6,7 +6,7 @@ ghost use Prim.Native.Nat.{_+_, _*_, _≤_, _<_};
 ghost use lib.ListN.{length, take, drop};
 ghost use Rattle.lm_format.specs.Uses.{useOf, reused};
 ghost use Rattle.submission.specs.Sizes.{statementMost};
-ghost use Rattle.leaf_uses.specs.Held.{entrySize, held, heldIn, heldAt, reusedIn};
+ghost use Rattle.submission_leaves.specs.Held.{entrySize, held, heldIn, heldAt, reusedIn};
 use submission::STATEMENT_MOST;
 
 // The bytes of a leaf's number, and of an entry of the buffer: leaf, length of the message, message.

@@ -3,11 +3,11 @@
 use mathlib.Core.Path.{_≡_}
 use Prim.Native.Nat.{_-_, _≤_}
 use native.Mathlib.Omega.{arith}
-use Rattle.leaf_uses.specs.Held.{heldAt}
-use Rattle.leaf_uses.proofs.Held.{ReusedLeft, all-left, found, not-found, none-left}
+use Rattle.submission_leaves.specs.Held.{heldAt}
+use Rattle.submission_leaves.proofs.Held.{ReusedLeft, all-left, found, not-found, none-left}
 use borrow.Author.Needs.{needs}
-use Rattle.leaf_uses.proofs.leaf_reused.Statement.{statement}
-use Rattle.leaf_uses.proofs.leaf_reused.Tie as tie
+use Rattle.submission_leaves.proofs.leaf_reused.Statement.{statement}
+use Rattle.submission_leaves.proofs.leaf_reused.Tie as tie
 
 abbrev Inv-loop : tie.InvT-loop
 Inv-loop buffer n i one j₀ j = (j ≤ n) × ReusedLeft buffer n (heldAt i buffer) j

@@ -2,10 +2,10 @@
 -- Assumes nothing.
 use mathlib.Core.Path.{sym, _∙_}
 use Rattle.words.proofs.Same.{same-test}
-use Rattle.leaf_uses.proofs.Held.{other-leaf, by-messages}
+use Rattle.submission_leaves.proofs.Held.{other-leaf, by-messages}
 use borrow.Author.Needs.{needs}
-use Rattle.leaf_uses.proofs.entries_reused.Statement.{statement}
-use Rattle.leaf_uses.proofs.entries_reused.Tie as tie
+use Rattle.submission_leaves.proofs.entries_reused.Statement.{statement}
+use Rattle.submission_leaves.proofs.entries_reused.Tie as tie
 
 returns : tie.Need-returns
 returns c =

@@ -6,11 +6,11 @@ use Prim.Native.Nat.{ℕ, _+_, _*_}
 use native.Mathlib.Omega.{arith}
 use lib.ListN.{length-set}
 use lib.Seq.{sets}
-use Rattle.leaf_uses.specs.Held.{entrySize}
-use Rattle.leaf_uses.proofs.Held.{entry-added}
+use Rattle.submission_leaves.specs.Held.{entrySize}
+use Rattle.submission_leaves.proofs.Held.{entry-added}
 use borrow.Author.Needs.{needs}
-use Rattle.leaf_uses.proofs.add_use.Statement.{statement}
-use Rattle.leaf_uses.proofs.add_use.Tie as tie
+use Rattle.submission_leaves.proofs.add_use.Statement.{statement}
+use Rattle.submission_leaves.proofs.add_use.Tie as tie
 
 put-bytes-requires : tie.Need-put-bytes-requires
 put-bytes-requires c κs =

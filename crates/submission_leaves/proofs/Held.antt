@@ -18,7 +18,7 @@ use Rattle.lm_format.specs.Leaf.{leafNumber}
 use Rattle.lm_format.specs.Uses.{Use, useOf, reused}
 use Rattle.submission.specs.Sizes.{statementMost}
 use Rattle.lm_format.proofs.Leaf.{leaf-same, leaves-differ}
-use Rattle.leaf_uses.specs.Held.{entrySize, padded, paddedUse, held, heldIn, heldAt, reusedIn}
+use Rattle.submission_leaves.specs.Held.{entrySize, padded, paddedUse, held, heldIn, heldAt, reusedIn}
 
 -- ---- one more entry
 
