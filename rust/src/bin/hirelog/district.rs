@@ -402,7 +402,7 @@ mod tests {
         assert!(fork_remark("fork 0 0", &files, &found).advice.starts_with("Run again when"));
         found.refusals[0] = Some(Refusal::Size);
         let remark = board_remark("board 2", 2, &files, &found);
-        let told = "the term, audit the two: `hirelog audit r 'b c' d`.";
+        let told = "the term or leaf, audit the two: `hirelog audit r 'b c' d`.";
         assert!(remark.advice.ends_with(told), "{}", remark.advice);
     }
 
