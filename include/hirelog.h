@@ -169,9 +169,9 @@ struct hirelog_lms_answer hirelog_lms_check(const uint8_t *key, size_t key_len,
  *      term in the second for a log staler than the record at that index (term compared first, then
  *      index); the vote's term;
  *   4  HIRELOG_RULE_STALE_VOTE_EXCHANGED: rule 3 with the submissions exchanged;
- *   5  HIRELOG_RULE_ONE_LEAF: two signatures of it with one leaf number and different messages
- *      (statements, compared as bytes), both in the first, both in the second or one in each; the
- *      row has the lowest such leaf number in place of the term.
+ *   5  HIRELOG_RULE_ONE_LEAF: two signatures of the replica with one leaf number and different
+ *      messages (statements, compared as bytes), both in the first, both in the second or one in
+ *      each; the row has the lowest such leaf number in place of the term.
  * Rule 5 comes last: a row has it only where the replica broke no other. It needs no fork, and is
  * the same with the submissions exchanged. 0 is a leaf number too, so that a row of 5 and 0 is that
  * of a replica which is named: its rule and bytes 6 to 7 tell, not the term.

@@ -91,7 +91,7 @@ impl fmt::Display for Refused {
 
 impl std::error::Error for Refused {}
 
-/// The lowest rule that a replica broke, and the lowest term for it.
+/// The lowest rule that a replica broke, and the lowest term for it; for rule 5 the lowest leaf number.
 #[derive(Clone, Copy, Debug, PartialEq, Eq)]
 pub struct Charge {
     pub rule: u8,

@@ -6,16 +6,10 @@ use lib.Dec.{leb, ltb}
 use lib.ListN.{length, getD, take, drop}
 use Rattle.words.specs.BigEndian.{numberAt}
 use Rattle.refusal.specs.Checks.{all}
-use Rattle.roster.specs.Roster.{nameSize}
-use Rattle.submission.specs.Sizes.{ballotMost}
 use Rattle.assembly.specs.Items.{Item, statementSize}
 use Rattle.assembly_items.specs.declared.ItemPlace.{ItemPlace}
 use Rattle.assembly_items.specs.declared.ItemReading.{ItemReading}
 use Rattle.assembly_items.specs.declared.ItemReading.the-variants.{Read, Refused}
-
--- the most bytes of a statement: a vote's, kind and cluster name before its fields
-abbrev pub statementMost : ℕ
-statementMost = 1 + nameSize + ballotMost
 
 -- the item at a place, or a refusal where its kind is none or the bag ends inside it
 unfoldable pub itemReading : ℕ → ℕ → List ℕ → ℕ → ItemReading

@@ -6,7 +6,8 @@ ghost use lib.ListN.{length};
 ghost use Rattle.words.specs.Widths.{widthMost};
 ghost use Rattle.roster.specs.Sizes.{signatureMost};
 ghost use Rattle.assembly.specs.Items as paper;
-ghost use Rattle.assembly_items.specs.Reader.{statementMost, itemReading};
+ghost use Rattle.submission.specs.Sizes.{statementMost};
+ghost use Rattle.assembly_items.specs.Reader.{itemReading};
 
 // Where the statement stands in an item, after the replica's number.
 const STATEMENT_AT: usize = 2;

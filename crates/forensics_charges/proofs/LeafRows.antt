@@ -1,7 +1,7 @@
 -- The row of rule 5, one use after the other: a use is charged once, however many others have its leaf.
 -- Assumes nothing.
 use mathlib.Core.Path.{_≡_, refl, sym, ap, _∙_}
-use mathlib.Core.Bool.{Bool, true, false, cond}
+use mathlib.Core.Bool.{Bool, true, false}
 use mathlib.Core.List.{List, [], _∷_, _++_, map, flatMap}
 use mathlib.Core.Logic.{⊎-elim}
 use mathlib.Core.Option.{Option, some, none}
@@ -12,26 +12,21 @@ use Rattle.refusal.proofs.Laws.{look}
 use Rattle.lm_format.specs.Leaf.{leafNumber}
 use Rattle.lm_format.specs.Uses.{Use, useOf, reused}
 use Rattle.replica.specs.Charges.{Charge, charge, leafClash}
-use Rattle.forensics.specs.Findings.{leafCharges, sooner, lower, lowest}
-use Rattle.submission_leaves.specs.Held.{entrySize, paddedUse, heldIn, heldAt, reusedIn}
-use Rattle.submission_leaves.proofs.Held.{left-first, reused-padded}
+use Rattle.forensics.specs.Findings.{leafCharges, lower, lowest}
+use Rattle.submission_leaves.specs.Entries.{entrySize, paddedUse, entryUses, entryUseAt, reusedIn}
+use Rattle.submission_leaves.proofs.Entries.{left-first, reused-padded}
 use Rattle.forensics_charges.specs.Charges.{least}
-use Rattle.forensics_charges.proofs.Lowest.{least-none, least-assoc, lowest-append}
+use Rattle.forensics_charges.proofs.Lowest.{least-none, least-assoc, lowest-append, lower-twice}
 
 -- ---- one use
 
--- two charges of one rule and term
-twice : (c : Charge) → lower c (some c) ≡ c
-unfolding lower
-twice c = ⊎-elim (λ (e : sooner c c ≡ true). rw e) (λ (e : sooner c c ≡ false). rw e) (look (sooner c c))
-
 again : (rule term : ℕ) (b : Bool) → lowest (charge true rule term ++ charge b rule term) ≡ lowest (charge true rule term)
 unfolding charge lowest lower
-again rule term true = ap some (twice (record { rule = rule; term = term }))
+again rule term true = ap some (lower-twice (record { rule = rule; term = term }))
 again rule term false = refl
 
 module _ (x : Use) where
-  pub one-use : (us : List Use) → lowest (flatMap (leafClash x) us) ≡ lowest (charge (reusedIn x us) 5 (leafNumber (x .leaf)))
+  one-use : (us : List Use) → lowest (flatMap (leafClash x) us) ≡ lowest (charge (reusedIn x us) 5 (leafNumber (x .leaf)))
   unfolding flatMap reusedIn leafClash charge
   one-use [] = refl
   one-use (y ∷ ys) =
@@ -52,10 +47,10 @@ module _ (x : Use) where
 
 module _ (b : List ℕ) (n : ℕ) where
   abbrev charged : Use → List Charge
-  charged x = flatMap (leafClash x) (heldIn n b)
+  charged x = flatMap (leafClash x) (entryUses n b)
 
   pub record UsesLeft (i : ℕ) (best : Option Charge) : Type 0 where
-    pub answer : least best (lowest (flatMap charged (heldIn (n - i) (drop (entrySize * i) b)))) ≡ lowest (leafCharges (heldIn n b) (heldIn n b))
+    pub answer : least best (lowest (flatMap charged (entryUses (n - i) (drop (entrySize * i) b)))) ≡ lowest (leafCharges (entryUses n b) (entryUses n b))
 
   pub uses-all : {best : Option Charge} → best ≡ lowest [] → UsesLeft 0 best
   unfolding leafCharges lowest least
@@ -63,22 +58,22 @@ module _ (b : List ℕ) (n : ℕ) where
       let whole : n - 0 ≡ n = omega arith in
       record { answer = rw (e, whole) }
 
-  pub uses-next : (i leaf : ℕ) {best row best' : Option Charge} {r : Bool} → UsesLeft i best → i < n → leaf ≡ leafNumber (heldAt i b .leaf)
-      → r ≡ reusedIn (heldAt i b) (heldIn n b) → row ≡ lowest (charge r 5 leaf) → best' ≡ least best row → UsesLeft (i + 1) best'
+  pub uses-next : (i leaf : ℕ) {best row best' : Option Charge} {r : Bool} → UsesLeft i best → i < n → leaf ≡ leafNumber (entryUseAt i b .leaf)
+      → r ≡ reusedIn (entryUseAt i b) (entryUses n b) → row ≡ lowest (charge r 5 leaf) → best' ≡ least best row → UsesLeft (i + 1) best'
   unfolding flatMap
   uses-next i leaf {best} {row} {best'} left more el er erow eb =
-      let later = flatMap charged (heldIn (n - (i + 1)) (drop (entrySize * (i + 1)) b)) in
-      let here : row ≡ lowest (charged (heldAt i b)) = erow ∙ (λ k. lowest (charge (er k) 5 (el k))) ∙ sym (one-use (heldAt i b) (heldIn n b)) in
+      let later = flatMap charged (entryUses (n - (i + 1)) (drop (entrySize * (i + 1)) b)) in
+      let here : row ≡ lowest (charged (entryUseAt i b)) = erow ∙ (λ k. lowest (charge (er k) 5 (el k))) ∙ sym (one-use (entryUseAt i b) (entryUses n b)) in
       record {
         answer =
             rw (eb, here)
-            (least-assoc best (lowest (charged (heldAt i b))) (lowest later)
-            ∙ ap (least best) (sym (lowest-append (charged (heldAt i b)) later))
+            (least-assoc best (lowest (charged (entryUseAt i b))) (lowest later)
+            ∙ ap (least best) (sym (lowest-append (charged (entryUseAt i b)) later))
             ∙ rw (left-first b n i more) at (left .answer));
       }
 
-  pub uses-done : (i : ℕ) {best : Option Charge} → UsesLeft i best → n ≤ i → best ≡ lowest (leafCharges (heldIn n b) (heldIn n b))
-  unfolding heldIn flatMap lowest
+  pub uses-done : (i : ℕ) {best : Option Charge} → UsesLeft i best → n ≤ i → best ≡ lowest (leafCharges (entryUses n b) (entryUses n b))
+  unfolding entryUses flatMap lowest
   uses-done i {best} left h =
       let none-left : n - i ≡ 0 = omega arith in
       sym (least-none best) ∙ rw none-left at (left .answer)

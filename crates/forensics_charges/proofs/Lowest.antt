@@ -55,6 +55,15 @@ alike c d e h =
     let term : c .term ≡ d .term = omega (arith, f .index (sym rule), g .index rule) in
     λ k. record { rule = rule k; term = term k }
 
+-- two charges of one rule and term
+pub lower-twice : (c : Charge) → lower c (some c) ≡ c
+unfolding lower
+lower-twice c = go (look (sooner c c))
+  where
+    go : (sooner c c ≡ true) ⊎ (sooner c c ≡ false) → cond (sooner c c) c c ≡ c
+    go (inl e) = rw e
+    go (inr e) = rw e
+
 not-both : (c d : Charge) → sooner c d ≡ true → sooner d c ≡ false
 not-both c d e = not-sooner d c (after c d e)
 

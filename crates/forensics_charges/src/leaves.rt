@@ -3,7 +3,7 @@ ghost use mathlib.Core.Path.{_≡_};
 ghost use Prim.Native.Nat.{_*_, _≤_};
 ghost use lib.ListN.{length};
 ghost use Rattle.forensics.specs.Findings.{leafCharges, lowest};
-ghost use Rattle.submission_leaves.specs.Held.{entrySize, heldIn};
+ghost use Rattle.submission_leaves.specs.Entries.{entrySize, entryUses};
 ghost use Rattle.forensics_charges.specs.Charges as inner;
 use super::Row;
 use submission_leaves::ENTRY_SIZE;
@@ -11,8 +11,8 @@ use submission_leaves::ENTRY_SIZE;
 // The row of a replica from n uses: the lowest leaf that has two messages.
 pub fn leaf_row(buffer: &[u8], n: usize) -> Row
     requires { ⌜ entrySize * n ≤ length (now buffer) ⌝ }
-    ensures { λ r. ⌜ inner.chargeOf r ≡ lowest (leafCharges (heldIn n (now (buffer .entry)))
-        (heldIn n (now (buffer .entry)))) ⌝ }
+    ensures { λ r. ⌜ inner.chargeOf r ≡ lowest (leafCharges (entryUses n (now (buffer .entry)))
+        (entryUses n (now (buffer .entry)))) ⌝ }
 {
     let mut best = super::unnamed_row();
     let mut i = 0;

@@ -3,17 +3,16 @@
 use mathlib.Core.Path.{_≡_, sym, ap, _∙_}
 use mathlib.Core.List.{List, [], _++_, map, map-append}
 use Prim.Native.Nat.{ℕ, _≤_}
-use lib.ListN.{length}
 use Rattle.lm_format.specs.Uses.{Use}
 use Rattle.submission.specs.Validate.{leaderMost}
 use Rattle.submission_parts.proofs.Shapes.{known-leaders}
 use Rattle.forensics.specs.Findings.{leafCharges}
-use Rattle.submission_leaves.specs.Held.{paddedUse}
+use Rattle.submission_leaves.specs.Entries.{paddedUse}
 use Rattle.forensics_charges.proofs.LeafRows.{charges-padded}
 use Rattle.forensics_find.specs.declared.Side.{Side}
-use Rattle.forensics_find.specs.Leaves.{Known}
+use Rattle.forensics_find.specs.Leaves.{Gatherable}
 
-pub few-leaders : (roster s : List ℕ) (x : Side) → Known roster s x → x .shape .leaders ≤ leaderMost
+pub few-leaders : (roster s : List ℕ) (x : Side) → Gatherable roster s x → x .shape .leaders ≤ leaderMost
 few-leaders roster s x k =
     let known = k .checked .counted .laid .known in
     rw (known-leaders _ _ known) (known .bounds .leaders)

@@ -1,4 +1,4 @@
--- The lowest charge of a replica from its signatures is the lowest that the four rules give over the tenures of the two submissions. Each kind of
+-- The lowest charge by rules 1 to 4 of a replica from its signatures is the lowest that they give over the tenures of the two submissions. Each kind of
 -- pair is one rule: check 13 says that a certificate's term is its term's in the log, check 14 that the commit's index is within it, and a
 -- term's last record ends a beginning of the log.
 -- Assumes nothing.

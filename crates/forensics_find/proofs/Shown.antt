@@ -1,5 +1,5 @@
--- What the terms and receipts of two accepted submissions show, as they are read, is what their signatures show: the terms are the log's, a
--- replica's row is that of the tenures, and the fork is that of the first difference.
+-- What the terms, receipts and leaves of two accepted submissions show, as they are read, is what their signatures show: the terms are the
+-- log's, a replica's row is the lower of that of the tenures and that of its leaves, and the fork is that of the first difference.
 -- Assumes nothing.
 use mathlib.Core.Path.{_≡_, refl, sym, ap, _∙_}
 use mathlib.Core.Bool.{true}
@@ -33,7 +33,7 @@ use Rattle.forensics_charges.specs.declared.Findings.{Findings}
 use Rattle.forensics_charges.specs.Charges.{receipts, ruledBy, rowsBy, forkOf, least, chargeOf, rowAt, findingsOf}
 use Rattle.forensics_charges.proofs.Lowest.{lowest-append}
 use Rattle.forensics_find.specs.declared.Side.{Side}
-use Rattle.forensics_find.specs.Leaves.{Known, sideUses, leafRow}
+use Rattle.forensics_find.specs.Leaves.{Gatherable, sideUses, leafRow}
 use Rattle.forensics_find.proofs.Views.{ruled}
 use Rattle.forensics_find.specs.Tenures.{tenuresOf}
 use Rattle.forensics_find.specs.Read.{read}
@@ -131,7 +131,7 @@ module _ (roster a b : List ℕ) (first : Facts roster a) (second : Facts roster
 
 pub side-known : (roster s : List ℕ) (x : Side) → rosterNumber roster ≡ 0 → Facts roster s
     → x .shape ≡ shapeOf (formOf roster .termBytes) (signatureSize roster) s
-    → PointersOf (formOf roster) (committed (viewOf roster s)) (viewOf roster s .log) (x .pointers) → Known roster s x
+    → PointersOf (formOf roster) (committed (viewOf roster s)) (viewOf roster s .log) (x .pointers) → Gatherable roster s x
 unfolding viewOf formOf version1 shapeOf
 side-known roster s x fine f e p =
     let w = formOf roster .termBytes in

@@ -3,11 +3,11 @@
 ghost use mathlib.Core.Path.{_≡_};
 ghost use mathlib.Core.List.{map};
 ghost use Prim.Native.Nat.{_-_, _*_, _≤_, _<_};
-ghost use lib.ListN.{length, getD};
-ghost use Rattle.submission_leaves.specs.Held.{entrySize};
+ghost use lib.ListN.{length};
+ghost use Rattle.submission_leaves.specs.Entries.{entrySize};
 ghost use Rattle.submission_uses.specs.Signed.{maskBits};
 ghost use Rattle.forensics_charges.specs.Charges as inner;
-ghost use Rattle.forensics_find.specs.Leaves.{useMost, Known, leafRow};
+ghost use Rattle.forensics_find.specs.Leaves.{useMost, Gatherable, leafRow};
 use super::Side;
 use forensics_charges::Row;
 use submission_leaves::ENTRY_SIZE;
@@ -26,8 +26,8 @@ fn replica_row(
     k: usize,
     buffer: &mut [u8],
 ) -> Row
-    requires { ⌜ Known (now roster) (now a) one × Known (now roster) (now b) other × (0 < k) × (k ≤ maskBits)
-        × (entrySize * useMost ≤ length (now buffer)) ⌝ }
+    requires { ⌜ Gatherable (now roster) (now a) one × Gatherable (now roster) (now b) other × (0 < k)
+        × (k ≤ maskBits) × (entrySize * useMost ≤ length (now buffer)) ⌝ }
     ensures { λ r. ⌜ inner.chargeOf r
         ≡ leafRow (now (roster .entry)) (now (a .entry)) (now (b .entry)) one other k ⌝ }
 {
@@ -45,7 +45,7 @@ pub fn leaf_rows(
     other: Side,
     rows: [Row; forensics::ROW_COUNT],
 ) -> [Row; forensics::ROW_COUNT]
-    requires { ⌜ Known (now roster) (now a) one × Known (now roster) (now b) other ⌝ }
+    requires { ⌜ Gatherable (now roster) (now a) one × Gatherable (now roster) (now b) other ⌝ }
     ensures { λ r. ⌜ map inner.chargeOf r
         ≡ inner.rowsBy (λ k. inner.least (inner.rowAt rows k) (leafRow (now (roster .entry))
         (now (a .entry)) (now (b .entry)) one other k)) 9 1 ⌝ }

@@ -11,7 +11,7 @@ use lib.Seq.{take-take}
 use Rattle.words.specs.BigEndian.{numberAt}
 use Rattle.lm_digits.specs.declared.Parameters.{Parameters}
 use Rattle.lm_format.specs.Formed.{formed}
-use Rattle.lm_format.specs.Leaf.{Leaf, leafOf, sameLeaf, leafNumber}
+use Rattle.lm_format.specs.Leaf.{Leaf, leafSize, leafAt, leafOf, sameLeaf, leafNumber}
 use Rattle.lm_format.proofs.Forms.{formed-facts}
 
 pub same-leaf : (p q : Leaf) → sameLeaf p q ≡ true → p ≡ q
@@ -31,7 +31,7 @@ pub leaf-number : (key sig : List ℕ) → numberAt 4 sig 0 ≡ leafNumber (leaf
 unfolding leafOf leafNumber
 leaf-number key sig = refl
 
-pub leaf-at : (key s : List ℕ) (size at : ℕ) → 4 ≤ size → leafOf key (take size (drop at s)) ≡ numberAt 4 s at
+pub leaf-at : (key s : List ℕ) (size at : ℕ) → leafSize ≤ size → leafOf key (take size (drop at s)) ≡ leafAt s at
 unfolding leafOf numberAt
 leaf-at key s size at h = rw (take-take 4 size (drop at s) h)
 

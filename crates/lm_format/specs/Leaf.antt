@@ -9,9 +9,17 @@ use Rattle.words.specs.BigEndian.{numberAt}
 abbrev pub Leaf : Type 0
 Leaf = ℕ
 
+-- the bytes of its number
+abbrev pub leafSize : ℕ
+leafSize = 4
+
+-- the leaf whose number stands at a place
+abbrev pub leafAt : List ℕ → ℕ → Leaf
+leafAt bytes at = numberAt leafSize bytes at
+
 -- of a signature under a key: its first field, q
 unfoldable pub leafOf : List ℕ → List ℕ → Leaf
-leafOf key signature = numberAt 4 signature 0
+leafOf key signature = leafAt signature 0
 
 unfoldable pub sameLeaf : Leaf → Leaf → Bool
 sameLeaf p q = eqb p q

@@ -1,5 +1,5 @@
-// Keys and signatures as bytes (RFC 8554, 5.3 and 5.4): the height of a tree type, and what a signature
-// must be before a hash is computed (5.4.2, algorithm 6a, step 2).
+// Keys and signatures as bytes (RFC 8554, 5.3 and 5.4): the height of a tree type, what a signature must be
+// before a hash is computed (5.4.2, algorithm 6a, step 2), and, as definitions, its leaf (document 02, W5).
 ghost use mathlib.Core.Path.{_≡_};
 ghost use Prim.Native.Nat.{_≤_};
 ghost use lib.ListN.{length};

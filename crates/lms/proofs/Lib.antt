@@ -1,2 +1,3 @@
 mod Answers
 pub mod Figures
+pub mod Leaves

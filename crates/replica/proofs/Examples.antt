@@ -134,14 +134,7 @@ open-others = (refl, refl, refl, refl, refl)
 
 -- ---- the leaf rule
 
--- uses of one leaf for two messages, one of which may be a beginning of the other; not for one message, and not two leaves
-uses : (reused (useOf 3 (1 ∷ 2 ∷ [])) (useOf 3 (1 ∷ 3 ∷ [])) ≡ true) × (reused (useOf 3 (1 ∷ [])) (useOf 3 (1 ∷ 0 ∷ [])) ≡ true)
-    × (reused (useOf 0 []) (useOf 0 (0 ∷ [])) ≡ true) × (reused (useOf 3 (1 ∷ 2 ∷ [])) (useOf 3 (1 ∷ 2 ∷ [])) ≡ false)
-    × (reused (useOf 3 (1 ∷ 2 ∷ [])) (useOf 4 (1 ∷ 3 ∷ [])) ≡ false) × (reused (useOf 3 (1 ∷ 2 ∷ [])) (useOf 4 (1 ∷ 2 ∷ [])) ≡ false)
-unfolding reused useOf sameLeaf same
-uses = (refl, refl, refl, refl, refl, refl)
-
--- their charge: rule 5 and the leaf's number, 0 too
+-- the charge of two uses: rule 5 and the leaf's number, 0 too
 leaf-charges : (leafClash (useOf 31 (1 ∷ [])) (useOf 31 (2 ∷ [])) ≡ record { rule = 5; term = 31 } ∷ [])
     × (leafClash (useOf 0 (1 ∷ [])) (useOf 0 (2 ∷ [])) ≡ record { rule = 5; term = 0 } ∷ [])
     × (leafClash (useOf 31 (1 ∷ [])) (useOf 31 (1 ∷ [])) ≡ []) × (leafClash (useOf 31 (1 ∷ [])) (useOf 30 (2 ∷ [])) ≡ [])
@@ -165,6 +158,11 @@ leaf-of-vote : (let c = voted (ballot 2 4 4 2) in (may-sign c (vote 7 (ballot 2 
     × (may-sign c (vote 8 (ballot 2 5 4 2)) ≡ true) × (may-sign c (stamp 8) ≡ true) × (may-sign c (receipt 8 2) ≡ true))
 unfolding may-sign after-leaf log signing of ballot ballotOn allowed all every rules signs oneMessage leafRule useIn useOf reused sameLeaf say place ballotBytes be same fitsTerm fitsIndex sameRequest oneRequest noStaler lastTerm termFrom staler version1
 leaf-of-vote = (refl, refl, refl, refl, refl, refl, refl, refl, refl)
+
+-- bytes are compared, and not claims: of a term that does not fit its field the low bytes are signed
+bytes-compared : may-sign (voted (ballot 2 4294967300 4 2)) (vote 7 (ballot 2 4 4 2)) ≡ true
+unfolding may-sign after-leaf log signing of ballot ballotOn allowed all every rules signs oneMessage leafRule useIn useOf reused sameLeaf say place ballotBytes be same fitsTerm fitsIndex sameRequest oneRequest noStaler lastTerm termFrom staler version1
+bytes-compared = refl
 
 -- a stamp and a receipt of the same fields are two messages; so are stamps, and receipts, of two terms or of two indexes
 leaf-of-place : (may-sign (received 4 log) (stamp 7) ≡ false) × (may-sign (stamped 4 log) (receipt 7 2) ≡ false)

@@ -3,32 +3,19 @@
 -- accepted submissions says the very term, or the leaf's very number, of its charge.
 -- Assumes nothing.
 use mathlib.Core.Path.{_≡_, refl, sym, ap, subst}
-use mathlib.Core.Bool.{Bool, true, false, cond, false≢true}
+use mathlib.Core.Bool.{Bool, true, false, cond}
 use mathlib.Core.List.{List, [], _∷_, _++_, flatMap, List·Memᴰ, List·Memᴰ·head, List·Memᴰ·tail, List·Memᴰ·not-nil, List·Memᴰ·cases-cons, List·Memᴰ·eq-of-singleton, List·Memᴰ·append-cases}
 use mathlib.Core.Logic.{⊎-elim}
 use mathlib.Core.Option.{Option, some, none}
-use Prim.Native.Nat.{ℕ, zero, suc, _^_, _≤_, _<_}
-use native.Mathlib.Nat.{lt-of-lt-of-le, le-trans}
-use lib.Dec.{eqb, lit≤}
-use lib.ListN.{length}
-use lib.Pow.{pow-mono}
+use Prim.Native.Nat.{ℕ, zero, suc, _^_, _<_}
 use Rattle.words.specs.BigEndian.{number, be, numberAt}
 use Rattle.words.proofs.Bytes.{Bytes}
 use Rattle.words.proofs.Laws.{number-be}
 use Rattle.words.proofs.Members.{joined-mem}
-use Rattle.refusal.proofs.Laws.{cond-true, every-mem}
-use Rattle.lm_digits.specs.declared.OneTime.{OneTime}
-use Rattle.lm_digits.specs.declared.OneTime.the-variants.{Known, Unknown as NoType}
-use Rattle.lm_digits.specs.Parameters.{oneTime}
-use Rattle.lm_format.specs.declared.Height.{Height}
-use Rattle.lm_format.specs.declared.Height.the-variants.{Levels, Unknown}
-use Rattle.lm_format.specs.Format.{height, keySize}
-use Rattle.lm_format.specs.Formed.{formed}
-use Rattle.lm_format.specs.Leaf.{leafOf, leafNumber}
+use Rattle.refusal.proofs.Laws.{every-mem}
+use Rattle.lm_format.specs.Leaf.{leafNumber}
 use Rattle.lm_format.specs.Uses.{Use, useOf, reused}
-use Rattle.lm_format.proofs.Forms.{height-le}
-use Rattle.lm_format.proofs.Leaf.{leaf-fits}
-use Rattle.lms.specs.Check.{verifies, typed, good}
+use Rattle.lms.proofs.Leaves.{good-leaf}
 use Rattle.roster.specs.Roster.{keyOf}
 use Rattle.log_chain.specs.Log.{Form, version1}
 use Rattle.log_chain.specs.Claim.{Claim, stamped, received, voted, say}
@@ -126,22 +113,6 @@ module _ (form : Form) where
         (λ (e : row ≡ lowest (allCharges asUse k xs ys)). subst RowFits (sym e) (lowest-fits (allCharges asUse k xs ys) (all-fit k)))
         (λ h. rows-fit count (suc k) row h)
         (List·Memᴰ·cases-cons m)
-
--- ---- the leaf of a good signature
-
-module _ (key message signature : List ℕ) where
-  typed-leaf : (o : OneTime) (t : Height) → ((h : ℕ) → t ≡ Levels h → h ≤ 25) → typed o t key message signature ≡ true
-      → leafNumber (leafOf key signature) < 256 ^ 4
-  unfolding typed verifies
-  typed-leaf NoType t high e = absurd (false≢true e)
-  typed-leaf (Known o) Unknown high e = absurd (false≢true e)
-  typed-leaf (Known o) (Levels h) high e =
-      lt-of-lt-of-le (leaf-fits o h key signature (cond-true (formed o h key signature) _ e .0)) (le-trans (pow-mono (high h refl)) (lit≤ tt))
-
-  good-leaf : good key message signature ≡ true → leafNumber (leafOf key signature) < 256 ^ 4
-  unfolding good
-  good-leaf e =
-      typed-leaf (oneTime (numberAt 4 key 4)) (height (numberAt 4 key 0)) (λ h d. height-le (numberAt 4 key 0) d) (cond-true (eqb (length key) keySize) _ e .1)
 
 -- ---- of two accepted submissions
 

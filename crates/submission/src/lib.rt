@@ -1,6 +1,6 @@
 // A submission, read from its trailer, and its checks (document 01, "A submission, read from its trailer" and
-// "What stops an audit", numbers 5 to 15): definitions and laws, and the places of the fields of its
-// certificates, over the term's width.
+// "What stops an audit", numbers 5 to 15), and the use of a leaf that a signature is (document 02, W5):
+// definitions and laws, and the places of the fields of its certificates, over the term's width.
 ghost use mathlib.Core.Path.{_≡_};
 ghost use Prim.Native.Nat.{_≤_};
 ghost use Rattle.words.specs.Widths.{widthMost};

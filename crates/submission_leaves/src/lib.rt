@@ -6,7 +6,7 @@ ghost use Prim.Native.Nat.{_+_, _*_, _≤_, _<_};
 ghost use lib.ListN.{length, take, drop};
 ghost use Rattle.lm_format.specs.Uses.{useOf, reused};
 ghost use Rattle.submission.specs.Sizes.{statementMost};
-ghost use Rattle.submission_leaves.specs.Held.{entrySize, held, heldIn, heldAt, reusedIn};
+ghost use Rattle.submission_leaves.specs.Entries.{entrySize, entryUse, entryUses, entryUseAt, reusedIn};
 use submission::STATEMENT_MOST;
 
 // The bytes of a leaf's number, and of an entry of the buffer: leaf, length of the message, message.
@@ -19,8 +19,8 @@ pub fn add_use(buffer: &mut [u8], n: usize, leaf: u32, size: usize, statement: &
     requires { ⌜ (length (now statement) ≡ statementMost) × (size ≤ statementMost)
         × (entrySize * (n + 1) ≤ length (now buffer)) ⌝ }
     ensures count { λ r. ⌜ r ≡ n + 1 ⌝ }
-    ensures uses { λ r. ⌜ heldIn r (now (buffer .exit))
-        ≡ heldIn n (now (buffer .entry)) ++ (useOf leaf (size ∷ now (statement .entry)) ∷ []) ⌝ }
+    ensures uses { λ r. ⌜ entryUses r (now (buffer .exit))
+        ≡ entryUses n (now (buffer .entry)) ++ (useOf leaf (size ∷ now (statement .entry)) ∷ []) ⌝ }
 {
     let at = ENTRY_SIZE * n;
     words::put_u32(buffer, at, leaf);
@@ -32,8 +32,8 @@ pub fn add_use(buffer: &mut [u8], n: usize, leaf: u32, size: usize, statement: &
 // Whether two entries, at places, have one leaf and different messages.
 fn entries_reused(buffer: &[u8], one: usize, other: usize) -> bool
     requires { ⌜ (one + entrySize ≤ length (now buffer)) × (other + entrySize ≤ length (now buffer)) ⌝ }
-    ensures { λ r. ⌜ r ≡ reused (held (take entrySize (drop one (now (buffer .entry)))))
-        (held (take entrySize (drop other (now (buffer .entry))))) ⌝ }
+    ensures { λ r. ⌜ r ≡ reused (entryUse (take entrySize (drop one (now (buffer .entry)))))
+        (entryUse (take entrySize (drop other (now (buffer .entry))))) ⌝ }
 {
     if words::u32_at(buffer, one) != words::u32_at(buffer, other) {
         return false;
@@ -48,7 +48,7 @@ fn entries_reused(buffer: &[u8], one: usize, other: usize) -> bool
 // Whether the leaf of entry i is that of another of n entries, with a different message.
 pub fn leaf_reused(buffer: &[u8], n: usize, i: usize) -> bool
     requires { ⌜ (i < n) × (entrySize * n ≤ length (now buffer)) ⌝ }
-    ensures { λ r. ⌜ r ≡ reusedIn (heldAt i (now (buffer .entry))) (heldIn n (now (buffer .entry))) ⌝ }
+    ensures { λ r. ⌜ r ≡ reusedIn (entryUseAt i (now (buffer .entry))) (entryUses n (now (buffer .entry))) ⌝ }
 {
     let one = ENTRY_SIZE * i;
     let mut j = 0;

@@ -2,7 +2,7 @@
 -- what is asked.
 -- Assumes nothing.
 use mathlib.Core.Path.{_≡_, refl, sym, ap, _∙_}
-use mathlib.Core.Bool.{Bool, true, false, cond}
+use mathlib.Core.Bool.{true, false, cond}
 use mathlib.Core.List.{List, [], _∷_, _++_, map, flatMap, append-assoc, append-nil, map-append}
 use mathlib.Core.Logic.{⊎-elim}
 use mathlib.Core.Option.{some, none}
@@ -24,6 +24,7 @@ use Rattle.log_chain.specs.Sizes.{placeStatement}
 use Rattle.log_chain.proofs.Records.{length-records}
 use Rattle.log_chain.proofs.Said.{receipt-said}
 use Rattle.log_terms.proofs.Records.{take-records}
+use Rattle.lm_format.specs.Leaf.{leafSize, leafAt}
 use Rattle.lm_format.specs.Uses.{Use, useOf}
 use Rattle.lm_format.proofs.Leaf.{leaf-at}
 use Rattle.log_chain.specs.Runs.{runs}
@@ -34,8 +35,8 @@ use Rattle.submission.proofs.Certificates.{certificates-first}
 use Rattle.submission_signatures.specs.Votes.{ballots}
 use Rattle.submission_signatures.proofs.Fifteen.{votes-leads}
 use Rattle.submission_signatures.proofs.Said.{vote-said}
-use Rattle.submission_leaves.specs.Held.{padded, paddedUse}
-use Rattle.submission_uses.specs.Signed.{onesBelow, signaturePlace, useIn}
+use Rattle.submission_leaves.specs.Entries.{padded, paddedUse}
+use Rattle.submission_uses.specs.Signed.{onesBelow, signaturePlace, slotUseIn}
 use Rattle.submission_uses.proofs.Places.{uses-certified}
 
 -- ---- an entry
@@ -54,36 +55,36 @@ no-entry us before e = rw e (sym (append-nil before))
 
 module _ (roster s : List ℕ) (w S : ℕ) (claim : Claim) (k : ℕ) (low : 0 < k) (high : k ≤ 16) where
   -- replica k's use, from the place where the signatures begin
-  signed-use : (mask from : ℕ) → 4 ≤ S
-      → uses (useIn w roster) k (certified S claim (replicasOf mask) (drop from s))
-      ≡ cond (signer mask k) (useOf (numberAt 4 s (signaturePlace mask k S from)) (say (withTerms w (cluster roster)) claim) ∷ []) []
+  signed-use : (mask from : ℕ) → leafSize ≤ S
+      → uses (slotUseIn w roster) k (certified S claim (replicasOf mask) (drop from s))
+      ≡ cond (signer mask k) (useOf (leafAt s (signaturePlace mask k S from)) (say (withTerms w (cluster roster)) claim) ∷ []) []
   unfolding slotUse slot signaturePlace
   signed-use mask from wide =
-      uses-certified (useIn w roster) S claim k mask (drop from s) low high
+      uses-certified (slotUseIn w roster) S claim k mask (drop from s) low high
       ∙ rw (drop-drop (S * onesBelow (k - 1) mask) from s, leaf-at (keyOf roster k) s S (from + S * onesBelow (k - 1) mask) wide)
 
 -- a vote
-module _ (roster s : List ℕ) (w S at k : ℕ) (low : 0 < k) (high : k ≤ 16) (wide : 4 ≤ S) (bytes : Bytes s) (inside : at + ballotSize w ≤ length s) where
+module _ (roster s : List ℕ) (w S at k : ℕ) (low : 0 < k) (high : k ≤ 16) (wide : leafSize ≤ S) (bytes : Bytes s) (inside : at + ballotSize w ≤ length s) where
   abbrev signers : ℕ
   signers = numberAt 2 s (at + ballotSize w)
 
   abbrev statement : List ℕ
   statement = 3 ∷ cluster roster ++ take (ballotSize w) (drop at s)
 
-  vote-uses : uses (useIn w roster) k (ballots S (certificateAt w s at))
-      ≡ cond (signer signers k) (useOf (numberAt 4 s (signaturePlace signers k S (at + ballotSize w + 2))) statement ∷ []) []
+  vote-uses : uses (slotUseIn w roster) k (ballots S (certificateAt w s at))
+      ≡ cond (signer signers k) (useOf (leafAt s (signaturePlace signers k S (at + ballotSize w + 2))) statement ∷ []) []
   unfolding ballots certificateAt signersAt
   vote-uses = signed-use roster s w S _ k low high signers (at + ballotSize w + 2) wide ∙ rw (sym (vote-said roster s w at bytes inside))
 
   pub own-vote : signer signers k ≡ true
-      → uses (useIn w roster) k (ballots S (certificateAt w s at)) ≡ useOf (numberAt 4 s (signaturePlace signers k S (at + ballotSize w + 2))) statement ∷ []
+      → uses (slotUseIn w roster) k (ballots S (certificateAt w s at)) ≡ useOf (leafAt s (signaturePlace signers k S (at + ballotSize w + 2))) statement ∷ []
   own-vote e = vote-uses ∙ rw e
 
-  pub no-vote : signer signers k ≡ false → uses (useIn w roster) k (ballots S (certificateAt w s at)) ≡ []
+  pub no-vote : signer signers k ≡ false → uses (slotUseIn w roster) k (ballots S (certificateAt w s at)) ≡ []
   no-vote e = vote-uses ∙ rw e
 
 -- a receipt
-module _ (roster s : List ℕ) (w S at records k : ℕ) (low : 0 < k) (high : k ≤ 16) (wide : 4 ≤ S) (p : List ℕ) (few : numberAt 4 s at ≤ records)
+module _ (roster s : List ℕ) (w S at records k : ℕ) (low : 0 < k) (high : k ≤ 16) (wide : leafSize ≤ S) (p : List ℕ) (few : numberAt 4 s at ≤ records)
     (pointed : p ≡ pointer (withTerms w []) (recordsOf w (numberAt 4 s at) s)) where
   abbrev given : ℕ
   given = numberAt 2 s (at + 4)
@@ -91,8 +92,8 @@ module _ (roster s : List ℕ) (w S at records k : ℕ) (low : 0 < k) (high : k 
   abbrev place : List ℕ
   place = placeStatement 2 (cluster roster) w (lastTerm (recordsOf w (numberAt 4 s at) s)) (numberAt 4 s at) p
 
-  receipt-uses : uses (useIn w roster) k (receiptsOf S (some (commitAt s at)) (recordsOf w records s))
-      ≡ cond (signer given k) (useOf (numberAt 4 s (signaturePlace given k S (at + 6))) place ∷ []) []
+  receipt-uses : uses (slotUseIn w roster) k (receiptsOf S (some (commitAt s at)) (recordsOf w records s))
+      ≡ cond (signer given k) (useOf (leafAt s (signaturePlace given k S (at + 6))) place ∷ []) []
   unfolding receiptsOf commitAt signersAt
   receipt-uses =
       let c = numberAt 4 s at in
@@ -100,10 +101,10 @@ module _ (roster s : List ℕ) (w S at records k : ℕ) (low : 0 < k) (high : k 
       (signed-use roster s w S _ k low high given (at + 6) wide)
 
   pub own-receipt : signer given k ≡ true
-      → uses (useIn w roster) k (receiptsOf S (some (commitAt s at)) (recordsOf w records s)) ≡ useOf (numberAt 4 s (signaturePlace given k S (at + 6))) place ∷ []
+      → uses (slotUseIn w roster) k (receiptsOf S (some (commitAt s at)) (recordsOf w records s)) ≡ useOf (leafAt s (signaturePlace given k S (at + 6))) place ∷ []
   own-receipt e = receipt-uses ∙ rw e
 
-  pub no-receipt : signer given k ≡ false → uses (useIn w roster) k (receiptsOf S (some (commitAt s at)) (recordsOf w records s)) ≡ []
+  pub no-receipt : signer given k ≡ false → uses (slotUseIn w roster) k (receiptsOf S (some (commitAt s at)) (recordsOf w records s)) ≡ []
   no-receipt e = receipt-uses ∙ rw e
 
 -- ---- lists joined

@@ -1,8 +1,8 @@
 -- Replica k's signature in a certificate: it stands after those of the signers before it.
 -- Assumes nothing.
-use mathlib.Core.Path.{_≡_, refl, sym, ap, _∙_}
-use mathlib.Core.Bool.{Bool, true, false, cond}
-use mathlib.Core.List.{List, [], _∷_, _++_}
+use mathlib.Core.Path.{_≡_, refl, sym, ap}
+use mathlib.Core.Bool.{true, false, cond}
+use mathlib.Core.List.{List, [], _∷_}
 use mathlib.Core.Logic.{⊎-elim}
 use Prim.Native.Nat.{ℕ, zero, suc, _+_, _-_, _*_, _/_, _%_, _^_, _≤_, _<_}
 use native.Mathlib.Nat.{div-one, mul-one, mul-add, mul-le-mul-left}
@@ -16,6 +16,7 @@ use Rattle.refusal.proofs.Laws.{look}
 use Rattle.roster.specs.Masks.{signer, replicasFrom, replicasOf}
 use Rattle.roster.proofs.Quorums.{shift}
 use Rattle.log_chain.specs.Claim.{Claim}
+use Rattle.lm_format.specs.Leaf.{leafSize}
 use Rattle.lm_format.specs.Uses.{Use}
 use Rattle.submission.specs.View.{Slot, slot, certified}
 use Rattle.submission.specs.Validate.{uses}
@@ -90,7 +91,7 @@ module _ (asUse : Slot → Use) (S : ℕ) (claim : Claim) where
       let place : 1 + (k - 1) ≡ k = omega arith in rw place at (used-from 16 1 mask (k - 1) bytes (omega arith))
 
 -- it lies before the last one's end
-pub place-inside : (mask k S from : ℕ) → signer mask k ≡ true → signaturePlace mask k S from + S ≤ from + S * ones mask
+place-inside : (mask k S from : ℕ) → signer mask k ≡ true → signaturePlace mask k S from + S ≤ from + S * ones mask
 unfolding signer signaturePlace
 place-inside mask k S from e =
     let few : onesBelow (k - 1) mask + 1 ≤ ones mask = one-more (k - 1) mask (eqb-true _ 1 e) in
@@ -99,5 +100,5 @@ place-inside mask k S from e =
     omega (arith, most, both)
 
 -- so its leaf lies inside what ends with the last one
-pub leaf-inside : (mask k S from end : ℕ) → signer mask k ≡ true → 4 ≤ S → from + S * ones mask ≤ end → signaturePlace mask k S from + 4 ≤ end
+pub leaf-inside : (mask k S from end : ℕ) → signer mask k ≡ true → leafSize ≤ S → from + S * ones mask ≤ end → signaturePlace mask k S from + leafSize ≤ end
 leaf-inside mask k S from end e wide h = omega (arith, place-inside mask k S from e)

@@ -1,12 +1,11 @@
 -- The stamps that are left while they are put one by one: the last record of a term stands in the next leader certificate, or is the log's.
 -- Assumes nothing.
 use mathlib.Core.Path.{_≡_, refl, sym, ap, _∙_}
-use mathlib.Core.Bool.{Bool, true, false, cond}
 use mathlib.Core.List.{List, [], _∷_, _++_, map, append-nil}
 use Prim.Native.Nat.{ℕ, _+_, _-_, _≤_, _<_}
 use native.Mathlib.Omega.{arith}
 use borrow.Author.Tests.{eq-eqb, ne-eqb}
-use lib.ListN.{length, take, drop}
+use lib.ListN.{length}
 use Rattle.words.specs.BigEndian.{numberAt}
 use Rattle.refusal.specs.Checks.{every}
 use Rattle.sha256.specs.declared.State.{State}
@@ -16,6 +15,7 @@ use Rattle.log_chain.specs.Log.{withTerms, Record, pointer, lastTerm}
 use Rattle.log_chain.specs.Runs.{Run}
 use Rattle.log_chain.specs.Sizes.{placeStatement}
 use Rattle.log_chain.proofs.Said.{stamp-said}
+use Rattle.lm_format.specs.Leaf.{leafSize, leafAt}
 use Rattle.lm_format.specs.Uses.{Use, useOf}
 use Rattle.lm_format.proofs.Leaf.{leaf-at}
 use Rattle.submission.specs.View.{leadsOf, stampOf, slot}
@@ -23,9 +23,9 @@ use Rattle.submission.specs.Reading.{ballotAt, certificateAt, certificateEnd, c
 use Rattle.submission.specs.Validate.{genuine, slotUse, uses}
 use Rattle.submission.proofs.Linked.{leadAt, leadsFrom, leads-first, TermsLeft, Turn}
 use Rattle.submission_signatures.proofs.StampsLeft.{StampsLeft, this}
-use Rattle.submission_leaves.specs.Held.{paddedUse}
+use Rattle.submission_leaves.specs.Entries.{paddedUse}
 use Rattle.submission_uses.specs.declared.StampPart.{StampPart}
-use Rattle.submission_uses.specs.Signed.{useIn}
+use Rattle.submission_uses.specs.Signed.{slotUseIn}
 use Rattle.submission_uses.specs.StampUses.{stampUses}
 use Rattle.submission_uses.proofs.Gathered.{put-then}
 
@@ -34,7 +34,7 @@ use Rattle.submission_uses.proofs.Gathered.{put-then}
 module _ (roster s : List ℕ) (w k : ℕ) (x : StampPart) where
   pub own-stamp : numberAt 2 s (x .certificate) ≡ k
       → stampUses roster s w k x
-      ≡ useOf (numberAt 4 s (x .signature)) (placeStatement 1 (cluster roster) w (numberAt w s (x .certificate + 2)) (x .index) (bytesOf (x .pointer))) ∷ []
+      ≡ useOf (leafAt s (x .signature)) (placeStatement 1 (cluster roster) w (numberAt w s (x .certificate + 2)) (x .index) (bytesOf (x .pointer))) ∷ []
   unfolding stampUses
   own-stamp e = rw (eq-eqb _ k e)
 
@@ -44,12 +44,12 @@ module _ (roster s : List ℕ) (w k : ℕ) (x : StampPart) where
 
 -- ---- the stamps that are left
 
-module _ (roster s : List ℕ) (w S k : ℕ) (wide : 4 ≤ S) where
+module _ (roster s : List ℕ) (w S k : ℕ) (wide : leafSize ≤ S) where
   -- a stamp by its fields is that of its term
   stamp-uses : (at stamp index : ℕ) (p : State) (r : Run) → numberAt w s (at + 2) ≡ lastTerm (r .upto) → length (r .upto) ≡ index
       → bytesOf p ≡ pointer (withTerms w []) (r .upto)
       → stampUses roster s w k (record { certificate = at; signature = stamp; index = index; pointer = p })
-      ≡ uses (useIn w roster) k (stampOf S (leadAt roster s w S at stamp r) ∷ [])
+      ≡ uses (slotUseIn w roster) k (stampOf S (leadAt roster s w S at stamp r) ∷ [])
   unfolding stampUses uses stampOf slot slotUse leadAt certificateAt ballotAt
   stamp-uses at stamp index p r term long pointed =
       rw (term, stamp-said (cluster roster) w (r .upto) (lastTerm (r .upto)) index (bytesOf p) long pointed, leaf-at (keyOf roster (numberAt 2 s at)) s S stamp wide)
@@ -59,7 +59,7 @@ module _ (roster s : List ℕ) (w S k : ℕ) (wide : 4 ≤ S) where
       pub before : List Record
       pub runs : List Run
       pub terms : TermsLeft roster s w S log left at stamp before runs
-      pub answer : now ++ map paddedUse (uses (useIn w roster) k (map (stampOf S) (leadsFrom roster s w S left at stamp runs))) ≡ all
+      pub answer : now ++ map paddedUse (uses (slotUseIn w roster) k (map (stampOf S) (leadsFrom roster s w S left at stamp runs))) ≡ all
 
     pub none-to-put : (now : List Use) (left at stamp : ℕ) → StampsToPut now left at stamp → left ≤ 0 → now ≡ all
     unfolding leadsFrom leadsOf certificates uses
@@ -84,6 +84,6 @@ module _ (roster s : List ℕ) (w S k : ℕ) (wide : 4 ≤ S) where
             runs = t .later;
             terms = t .rest;
             answer =
-                put-then (useIn w roster) k (stampOf S (leadAt roster s w S at stamp (t .of)) ∷ []) _ now one
+                put-then (slotUseIn w roster) k (stampOf S (leadAt roster s w S at stamp (t .of)) ∷ []) _ now one
                 ∙ rw (t .both, leads-first roster s w S left at stamp (t .of) (t .later) more) at (x .answer);
           }

@@ -20,5 +20,5 @@ onesBelow (suc i) mask = mask % 2 + onesBelow i (mask / 2)
 unfoldable pub signaturePlace : ℕ → ℕ → ℕ → ℕ → ℕ
 signaturePlace mask k S from = from + S * onesBelow (k - 1) mask
 
-abbrev pub useIn : ℕ → List ℕ → Slot → Use
-useIn w roster = slotUse (withTerms w (cluster roster)) roster
+abbrev pub slotUseIn : ℕ → List ℕ → Slot → Use
+slotUseIn w roster = slotUse (withTerms w (cluster roster)) roster

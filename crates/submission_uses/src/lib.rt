@@ -9,7 +9,8 @@ ghost use Rattle.roster.specs.Sizes.{signatureMost};
 ghost use Rattle.submission.specs.Validate.{uses, submissionMost};
 ghost use Rattle.submission_parts.specs.Shapes.{viewIn};
 ghost use Rattle.submission_signatures.specs.Checked.{Checked, PointersIn};
-ghost use Rattle.submission_leaves.specs.Held.{leafSize, entrySize, paddedUse, heldIn};
+ghost use Rattle.lm_format.specs.Leaf.{leafSize};
+ghost use Rattle.submission_leaves.specs.Entries.{entrySize, paddedUse, entryUses};
 ghost use Rattle.submission_uses.specs.Signed as inner;
 use log_terms::LogPointers;
 use sha256::State;
@@ -52,8 +53,8 @@ pub fn gather(
         × (0 < k) × (k ≤ inner.maskBits) × (leafSize ≤ shape .size)
         × (entrySize * (n + (shape .leaders + shape .leaders + 1)) ≤ length (now buffer)) ⌝ }
     ensures few { λ r. ⌜ r ≤ n + (shape .leaders + shape .leaders + 1) ⌝ }
-    ensures uses { λ r. ⌜ heldIn r (now (buffer .exit)) ≡ heldIn n (now (buffer .entry))
-        ++ map paddedUse (uses (inner.useIn (shape .width) (now (roster .entry))) k
+    ensures uses { λ r. ⌜ entryUses r (now (buffer .exit)) ≡ entryUses n (now (buffer .entry))
+        ++ map paddedUse (uses (inner.slotUseIn (shape .width) (now (roster .entry))) k
         (slots (shape .size) (viewIn shape (now (s .entry))))) ⌝ }
 {
     let voted = votes::add_votes(roster, s, shape, k, buffer, n);

@@ -12,8 +12,9 @@ ghost use Rattle.submission.specs.View.{receiptsOf};
 ghost use Rattle.submission.specs.Reading.{commitAt, commitFrom, commitOf};
 ghost use Rattle.submission.specs.Validate.{uses};
 ghost use Rattle.submission_signatures.specs.Checked.{Checked};
-ghost use Rattle.submission_leaves.specs.Held.{leafSize, entrySize, paddedUse, heldIn};
-ghost use Rattle.submission_uses.specs.Signed.{maskBits, useIn};
+ghost use Rattle.lm_format.specs.Leaf.{leafSize};
+ghost use Rattle.submission_leaves.specs.Entries.{entrySize, paddedUse, entryUses};
+ghost use Rattle.submission_uses.specs.Signed.{maskBits, slotUseIn};
 use log_chain::RECEIPT;
 use sha256::State;
 use submission::COMMIT_FIELDS_SIZE;
@@ -40,8 +41,8 @@ pub fn add_receipt(
         (numberAt 4 (now s) at) (now s)))
         × (0 < k) × (k ≤ maskBits) × (entrySize * (n + 1) ≤ length (now buffer)) ⌝ }
     ensures few { λ r. ⌜ r ≤ n + 1 ⌝ }
-    ensures uses { λ r. ⌜ heldIn r (now (buffer .exit)) ≡ heldIn n (now (buffer .entry))
-        ++ map paddedUse (uses (useIn (shape .width) (now (roster .entry))) k
+    ensures uses { λ r. ⌜ entryUses r (now (buffer .exit)) ≡ entryUses n (now (buffer .entry))
+        ++ map paddedUse (uses (slotUseIn (shape .width) (now (roster .entry))) k
         (receiptsOf (shape .size) (some (commitAt (now (s .entry)) at)) (recordsOf (shape .width)
         (shape .records) (now (s .entry))))) ⌝ }
 {

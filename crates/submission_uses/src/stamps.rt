@@ -13,8 +13,9 @@ ghost use Rattle.submission.specs.Reading.{ballotSize};
 ghost use Rattle.submission.specs.Validate.{uses};
 ghost use Rattle.submission_parts.specs.Shapes.{viewIn};
 ghost use Rattle.submission_signatures.specs.Checked.{Checked};
-ghost use Rattle.submission_leaves.specs.Held.{leafSize, entrySize, paddedUse, heldIn};
-ghost use Rattle.submission_uses.specs.Signed.{useIn};
+ghost use Rattle.lm_format.specs.Leaf.{leafSize};
+ghost use Rattle.submission_leaves.specs.Entries.{entrySize, paddedUse, entryUses};
+ghost use Rattle.submission_uses.specs.Signed.{slotUseIn};
 ghost use Rattle.submission_uses.specs.StampUses.{stampUses};
 use super::StampPart;
 use log_chain::STAMP;
@@ -38,7 +39,7 @@ fn add_stamp(
         × (stamp .signature + leafSize ≤ length (now s))
         × (entrySize * (n + 1) ≤ length (now buffer)) ⌝ }
     ensures few { λ r. ⌜ r ≤ n + 1 ⌝ }
-    ensures uses { λ r. ⌜ heldIn r (now (buffer .exit)) ≡ heldIn n (now (buffer .entry))
+    ensures uses { λ r. ⌜ entryUses r (now (buffer .exit)) ≡ entryUses n (now (buffer .entry))
         ++ map paddedUse (stampUses (now (roster .entry)) (now (s .entry)) width k stamp) ⌝ }
 {
     let at = stamp.certificate;
@@ -76,8 +77,8 @@ pub fn add_stamps(
         (shape .records) (now s)))
         × (entrySize * (n + shape .leaders) ≤ length (now buffer)) ⌝ }
     ensures few { λ r. ⌜ r ≤ n + shape .leaders ⌝ }
-    ensures uses { λ r. ⌜ heldIn r (now (buffer .exit)) ≡ heldIn n (now (buffer .entry))
-        ++ map paddedUse (uses (useIn (shape .width) (now (roster .entry))) k
+    ensures uses { λ r. ⌜ entryUses r (now (buffer .exit)) ≡ entryUses n (now (buffer .entry))
+        ++ map paddedUse (uses (slotUseIn (shape .width) (now (roster .entry))) k
         (map (stampOf (shape .size)) (leads (viewIn shape (now (s .entry)))))) ⌝ }
 {
     let width = shape.width;

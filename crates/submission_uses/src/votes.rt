@@ -1,7 +1,7 @@
 // A replica's votes in a submission, over the term's width.
 ghost use mathlib.Core.Path.{_≡_};
 ghost use mathlib.Core.List.{_++_, map, flatMap};
-ghost use Prim.Native.Nat.{_+_, _*_, _^_, _≤_, _<_};
+ghost use Prim.Native.Nat.{_+_, _*_, _≤_, _<_};
 ghost use lib.ListN.{length};
 ghost use Rattle.words.specs.Widths.{widthMost};
 ghost use Rattle.roster.specs.Roster.{rosterNumber};
@@ -11,8 +11,9 @@ ghost use Rattle.submission.specs.Validate.{uses, submissionMost};
 ghost use Rattle.submission_parts.specs.Shapes.{viewIn};
 ghost use Rattle.submission_signatures.specs.Votes.{ballots};
 ghost use Rattle.submission_signatures.specs.Checked.{Checked};
-ghost use Rattle.submission_leaves.specs.Held.{leafSize, entrySize, paddedUse, heldIn};
-ghost use Rattle.submission_uses.specs.Signed.{maskBits, useIn};
+ghost use Rattle.lm_format.specs.Leaf.{leafSize};
+ghost use Rattle.submission_leaves.specs.Entries.{entrySize, paddedUse, entryUses};
+ghost use Rattle.submission_uses.specs.Signed.{maskBits, slotUseIn};
 use log_chain::VOTE;
 use submission::SIGNERS_SIZE;
 use submission::STATEMENT_MOST;
@@ -34,8 +35,8 @@ fn add_vote(
         × (certificateEnd width size (now s) at ≤ length (now s)) × (length (now s) ≤ submissionMost)
         × (0 < k) × (k ≤ maskBits) × (entrySize * (n + 1) ≤ length (now buffer)) ⌝ }
     ensures few { λ r. ⌜ r ≤ n + 1 ⌝ }
-    ensures uses { λ r. ⌜ heldIn r (now (buffer .exit)) ≡ heldIn n (now (buffer .entry))
-        ++ map paddedUse (uses (useIn width (now (roster .entry))) k
+    ensures uses { λ r. ⌜ entryUses r (now (buffer .exit)) ≡ entryUses n (now (buffer .entry))
+        ++ map paddedUse (uses (slotUseIn width (now (roster .entry))) k
         (ballots size (certificateAt width (now (s .entry)) at))) ⌝ }
 {
     let end = at + submission::ballot_size(width);
@@ -67,8 +68,8 @@ pub fn add_votes(
     requires { ⌜ Checked (now roster) shape (now s) × (0 < k) × (k ≤ maskBits) × (leafSize ≤ shape .size)
         × (entrySize * (n + shape .leaders) ≤ length (now buffer)) ⌝ }
     ensures few { λ r. ⌜ r ≤ n + shape .leaders ⌝ }
-    ensures uses { λ r. ⌜ heldIn r (now (buffer .exit)) ≡ heldIn n (now (buffer .entry))
-        ++ map paddedUse (uses (useIn (shape .width) (now (roster .entry))) k
+    ensures uses { λ r. ⌜ entryUses r (now (buffer .exit)) ≡ entryUses n (now (buffer .entry))
+        ++ map paddedUse (uses (slotUseIn (shape .width) (now (roster .entry))) k
         (flatMap (ballots (shape .size)) (viewIn shape (now (s .entry)) .leaders))) ⌝ }
 {
     let mut left = shape.leaders;

@@ -1,7 +1,7 @@
 -- An accepted roster has the bytes of a key, and accepted submissions are laid out; what is read from them, with what their leaves give, is
 -- what they show.
 -- Assumes nothing.
-use mathlib.Core.Path.{_≡_, ap, _∙_}
+use mathlib.Core.Path.{ap, _∙_}
 use Prim.Native.Nat.{ℕ}
 use native.Mathlib.Omega.{arith}
 use Rattle.log_chain.specs.Log.{version1}

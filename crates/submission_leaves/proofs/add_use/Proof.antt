@@ -1,13 +1,13 @@
 -- Three stores make an entry.
 -- Assumes nothing.
-use mathlib.Core.Path.{refl, sym, ap, _∙_}
+use mathlib.Core.Path.{refl, ap, _∙_}
 use mathlib.Core.List.{List, [], _∷_}
 use Prim.Native.Nat.{ℕ, _+_, _*_}
 use native.Mathlib.Omega.{arith}
 use lib.ListN.{length-set}
 use lib.Seq.{sets}
-use Rattle.submission_leaves.specs.Held.{entrySize}
-use Rattle.submission_leaves.proofs.Held.{entry-added}
+use Rattle.submission_leaves.specs.Entries.{entrySize}
+use Rattle.submission_leaves.proofs.Entries.{entry-added}
 use borrow.Author.Needs.{needs}
 use Rattle.submission_leaves.proofs.add_use.Statement.{statement}
 use Rattle.submission_leaves.proofs.add_use.Tie as tie

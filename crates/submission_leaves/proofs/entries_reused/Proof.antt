@@ -2,7 +2,7 @@
 -- Assumes nothing.
 use mathlib.Core.Path.{sym, _∙_}
 use Rattle.words.proofs.Same.{same-test}
-use Rattle.submission_leaves.proofs.Held.{other-leaf, by-messages}
+use Rattle.submission_leaves.proofs.Entries.{other-leaf, by-messages}
 use borrow.Author.Needs.{needs}
 use Rattle.submission_leaves.proofs.entries_reused.Statement.{statement}
 use Rattle.submission_leaves.proofs.entries_reused.Tie as tie

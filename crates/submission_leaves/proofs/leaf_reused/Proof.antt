@@ -1,16 +1,15 @@
 -- One entry a turn.
 -- Assumes nothing.
-use mathlib.Core.Path.{_≡_}
 use Prim.Native.Nat.{_-_, _≤_}
 use native.Mathlib.Omega.{arith}
-use Rattle.submission_leaves.specs.Held.{heldAt}
-use Rattle.submission_leaves.proofs.Held.{ReusedLeft, all-left, found, not-found, none-left}
+use Rattle.submission_leaves.specs.Entries.{entryUseAt}
+use Rattle.submission_leaves.proofs.Entries.{ReusedLeft, all-left, found, not-found, none-left}
 use borrow.Author.Needs.{needs}
 use Rattle.submission_leaves.proofs.leaf_reused.Statement.{statement}
 use Rattle.submission_leaves.proofs.leaf_reused.Tie as tie
 
 abbrev Inv-loop : tie.InvT-loop
-Inv-loop buffer n i one j₀ j = (j ≤ n) × ReusedLeft buffer n (heldAt i buffer) j
+Inv-loop buffer n i one j₀ j = (j ≤ n) × ReusedLeft buffer n (entryUseAt i buffer) j
 
 abbrev μ-loop : tie.MeasureT-loop
 μ-loop buffer n i one j₀ j = n - j
@@ -25,13 +24,13 @@ entries-reused-requires : tie.Need-entries-reused-requires Inv-loop μ-loop
 entries-reused-requires c κs = search needs
 
 returns : tie.Need-returns Inv-loop μ-loop
-unfolding heldAt
+unfolding entryUseAt
 returns c =
     let l = c .before .before .before .loop in
     found _ _ _ (l .j) (l .inv .1) (c .before .before .loop-test .taken) (c .before .entries-reused .ensures) (c .if1 .taken)
 
 loop-again : tie.Need-loop-again Inv-loop μ-loop
-unfolding heldAt
+unfolding entryUseAt
 loop-again c =
     let l = c .before .before .before .loop in
     (omega arith, not-found _ _ _ (l .j) (l .inv .1) (c .before .before .loop-test .taken) (c .before .entries-reused .ensures) (c .if1 .left))

@@ -1,17 +1,15 @@
 -- The votes, the stamps and the receipt, each after what was put before.
 -- Assumes nothing.
-use mathlib.Core.Path.{_≡_, sym, ap, _∙_}
+use mathlib.Core.Path.{sym, ap, _∙_}
 use mathlib.Core.List.{[]}
-use Prim.Native.Nat.{_+_, _*_, _≤_}
 use native.Mathlib.Omega.{arith}
 use borrow.Author.Needs.{needs}
-use lib.ListN.{length}
 use Rattle.log_chain.specs.Log.{withTerms, pointer}
 use Rattle.submission.specs.Reading.{view}
 use Rattle.submission_parts.proofs.Commits.{absent-says, found-says}
 use Rattle.submission_parts.proofs.Shapes.{known-records, leader-count, stamp-count}
 use Rattle.submission_signatures.proofs.Facts.{commit-records}
-use Rattle.submission_leaves.specs.Held.{heldIn}
+use Rattle.submission_leaves.specs.Entries.{entryUses}
 use Rattle.submission_uses.proofs.Gathered.{without-receipt, with-receipt}
 use Rattle.submission_uses.proofs.gather.Statement.{statement}
 use Rattle.submission_uses.proofs.gather.Tie as tie
@@ -46,7 +44,7 @@ returns c =
     let absent = absent-says _ _ _ (sym (read .commit-part .ensures) ∙ c .enum-told .given .1) in (
       omega (arith, stamps .add-stamps .ensures .0, votes .add-votes .ensures .0),
       without-receipt _ (a .shape .size) (a .k) (view (a .shape .width) (a .shape .size) (a .s .now)) (p .0 .counted .count) (stamp-count _ _ known ∙ sym (leader-count _ _ known))
-          (heldIn (a .n) (a .buffer .now)) (votes .add-votes .ensures .1) (stamps .add-stamps .ensures .1) absent,
+          (entryUses (a .n) (a .buffer .now)) (votes .add-votes .ensures .1) (stamps .add-stamps .ensures .1) absent,
     )
 
 add-receipt-requires : tie.Need-add-receipt-requires
@@ -83,7 +81,7 @@ returns-2 c =
     let told = found-says _ _ _ (sym (read .commit-part .ensures) ∙ c .before .before .before .before .before .at .given .1) in (
       omega (arith, stamps .add-stamps .ensures .0, votes .add-votes .ensures .0, put .ensures .0),
       with-receipt _ (a .shape .size) (a .k) (view (a .shape .width) (a .shape .size) (a .s .now)) (p .0 .counted .count) (stamp-count _ _ known ∙ sym (leader-count _ _ known))
-          (heldIn (a .n) (a .buffer .now)) (votes .add-votes .ensures .1) (stamps .add-stamps .ensures .1) (told .2)
+          (entryUses (a .n) (a .buffer .now)) (votes .add-votes .ensures .1) (stamps .add-stamps .ensures .1) (told .2)
           (rw (known-records _ _ known) at (put .ensures .1)),
     )
 

@@ -3,7 +3,7 @@
 use mathlib.Core.Path.{_∙_}
 use Prim.Native.Nat.{_-_, _≤_}
 use native.Mathlib.Omega.{arith}
-use Rattle.submission_leaves.proofs.Held.{held-number}
+use Rattle.submission_leaves.proofs.Entries.{entry-number}
 use Rattle.forensics_charges.specs.Charges.{chargeOf}
 use Rattle.forensics_charges.proofs.LeafRows.{UsesLeft, uses-all, uses-next, uses-done}
 use borrow.Author.Needs.{needs}
@@ -26,7 +26,7 @@ loop-again c =
     let l = looped .loop in (
       omega arith,
       uses-next (a .buffer .now) (a .n) (l .i) _ (l .inv .1) (c .before .before .before .before .loop-test .taken)
-          (c .before .before .before .u32-at .ensures .0 ∙ held-number (a .buffer .now) (l .i)) (c .before .before .leaf-reused .ensures) (c .before .charged .ensures) (c .lower-row .ensures),
+          (c .before .before .before .u32-at .ensures .0 ∙ entry-number (a .buffer .now) (l .i)) (c .before .before .leaf-reused .ensures) (c .before .charged .ensures) (c .lower-row .ensures),
     )
 
 returns : tie.Need-returns Inv-loop μ-loop

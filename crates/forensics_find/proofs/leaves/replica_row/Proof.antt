@@ -1,12 +1,10 @@
 -- The second submission's signatures after the first's, in one buffer.
 -- Assumes nothing.
-use mathlib.Core.Path.{_≡_, ap, _∙_}
-use Prim.Native.Nat.{_+_, _*_, _≤_}
+use mathlib.Core.Path.{ap, _∙_}
 use native.Mathlib.Omega.{arith}
 use borrow.Author.Needs.{needs}
-use lib.ListN.{length}
 use Rattle.forensics.specs.Findings.{lowest}
-use Rattle.submission_leaves.specs.Held.{heldIn}
+use Rattle.submission_leaves.specs.Entries.{entryUses}
 use Rattle.forensics_find.specs.Leaves.{sideUses, leafRow}
 use Rattle.forensics_find.proofs.Gathered.{few-leaders, both-gathered}
 use Rattle.forensics_find.proofs.leaves.replica_row.Statement.{statement}
@@ -37,7 +35,7 @@ leaf-row-requires c κs =
     omega (arith, few-leaders _ _ _ (p .0), few-leaders _ _ _ (p .1), p .4, first .ensures .0, second .ensures .0, first .kept .1 .1 .1 .1 .1 .0, second .kept .1 .1 .1 .1 .1 .0)
 
 returns : tie.Need-returns
-unfolding leafRow sideUses heldIn
+unfolding leafRow sideUses entryUses
 returns c =
     let second = c .before .before .before .before .gather2 in
     let first = c .before .before .before .before .before .before .before .before .gather in

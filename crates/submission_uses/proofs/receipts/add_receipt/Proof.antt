@@ -1,7 +1,7 @@
 -- A signer's receipt is put, with the term, index and pointer of the record that the certificate names.
 -- Assumes nothing.
 use mathlib.Core.Path.{_≡_, sym, ap, ap₂, _∙_}
-use mathlib.Core.List.{List, _∷_, _++_}
+use mathlib.Core.List.{_++_}
 use Prim.Native.Nat.{ℕ, _+_, _≤_}
 use native.Mathlib.Omega.{arith}
 use borrow.Author.Needs.{needs}
@@ -19,8 +19,10 @@ use Rattle.log_chain.specs.Sizes.{placeStatement}
 use Rattle.submission.specs.Reading.{signersAt, commitEnd}
 use Rattle.submission_parts.proofs.Shapes.{records-room, upto-room}
 use Rattle.submission_signatures.proofs.Facts.{commit-within, commit-end-in}
-use Rattle.submission_leaves.specs.Held.{padded, heldIn}
-use Rattle.submission_leaves.proofs.Held.{padded-put}
+use Rattle.lm_format.specs.Leaf.{leafAt}
+use Rattle.submission.specs.Sizes.{statementMost}
+use Rattle.submission_leaves.specs.Entries.{padded, entryUses}
+use Rattle.submission_leaves.proofs.Entries.{padded-put}
 use Rattle.submission_uses.specs.Signed.{signaturePlace}
 use Rattle.submission_uses.proofs.Places.{leaf-inside}
 use Rattle.submission_uses.proofs.Gathered.{entry-of, no-entry, own-receipt, no-receipt}
@@ -101,7 +103,7 @@ put-place-statement-requires c κs =
 add-use-requires : tie.Need-add-use-requires
 add-use-requires c κs =
     let put = c .before .before .before .put-place-statement in
-    let room : length (put .last .0) ≡ 71 = search needs in
+    let room : length (put .last .0) ≡ statementMost = search needs in
     let start = c .before .before .before .before .before .before .before .before .before .before .before .before .before .before .before .before in
     (room, omega (arith, room, written-inside _ _ _ _ (put .ensures .0) (put .ensures .1)), start .pre .7)
 
@@ -122,15 +124,15 @@ returns-2 c =
     let signed = ap (λ (m : ℕ). signer m (a .k)) (sym mask) ∙ sym (tested .before .signer .ensures) ∙ not-false _ (tested .if1 .left) in
     let index = read .before .u32-at2 .ensures .0 in
     let term = read .last-term .ensures ∙ ap (λ (i : ℕ). lastTerm (recordsOf w i s)) index in
-    let room : length (put .put-place-statement .last .0) ≡ 71 = search needs in
+    let room : length (put .put-place-statement .last .0) ≡ statementMost = search needs in
     let done = put .put-place-statement .ensures in
     let message = padded-put _ _ _ (omega (arith, room, done .0, written-inside _ _ _ _ (done .0) (done .1))) (done .0) (done .1)
     ∙ ap₂ (λ (t i : ℕ). padded (placeStatement 2 (cluster roster) w t i (bytesOf (a .pointer)))) term index in
     let place = leafed .before .signature-place .ensures ∙ ap (λ (m : ℕ). signaturePlace m (a .k) (a .shape .size) (a .at + 6)) mask in
-    let leaf = leafed .u32-at .ensures .0 ∙ ap (numberAt 4 s) place in (
+    let leaf = leafed .u32-at .ensures .0 ∙ ap (leafAt s) place in (
       omega (arith, c .before .before .add-use .ensures .0),
       c .before .before .add-use .ensures .1
-          ∙ ap (λ z. heldIn (a .n) (a .buffer .now) ++ z)
+          ∙ ap (λ z. entryUses (a .n) (a .buffer .now) ++ z)
           (entry-of _ _ _ _ _ (own-receipt roster s w (a .shape .size) (a .at) (a .shape .records) (a .k) (p .5) (p .6) (p .1) (bytesOf (a .pointer))
           (commit-within _ _ _ (p .0 .counted .laid) _ (p .3) (p .0 .commit)) (p .4) signed) leaf message),
     )

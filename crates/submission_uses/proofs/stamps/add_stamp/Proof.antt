@@ -1,20 +1,20 @@
 -- The candidate's stamp is put, with the certificate's term.
 -- Assumes nothing.
-use mathlib.Core.Path.{_≡_, refl, sym, ap, _∙_}
-use mathlib.Core.List.{List, _∷_, _++_}
-use Prim.Native.Nat.{ℕ, _+_, _≤_}
+use mathlib.Core.Path.{_≡_, sym, ap, _∙_}
+use mathlib.Core.List.{_++_}
+use Prim.Native.Nat.{ℕ, _+_}
 use native.Mathlib.Omega.{arith}
 use borrow.Author.Needs.{needs}
 use lib.ListN.{length}
-use Rattle.words.specs.BigEndian.{numberAt}
 use Rattle.words.proofs.Over.{written-inside}
 use Rattle.sha256.specs.Sha256.{bytesOf}
 use Rattle.roster.specs.Roster.{cluster}
 use Rattle.roster.proofs.Accepted.{name-length}
 use Rattle.log_chain.specs.Sizes.{placeStatement}
 use Rattle.submission.specs.Reading.{ballotSize}
-use Rattle.submission_leaves.specs.Held.{padded, heldIn}
-use Rattle.submission_leaves.proofs.Held.{padded-put}
+use Rattle.submission.specs.Sizes.{statementMost}
+use Rattle.submission_leaves.specs.Entries.{padded, entryUses}
+use Rattle.submission_leaves.proofs.Entries.{padded-put}
 use Rattle.submission_uses.proofs.Gathered.{entry-of, no-entry}
 use Rattle.submission_uses.proofs.StampUses.{own-stamp, no-stamp}
 use Rattle.submission_uses.proofs.stamps.add_stamp.Statement.{statement}
@@ -52,7 +52,7 @@ put-place-statement-requires c κs =
 add-use-requires : tie.Need-add-use-requires
 add-use-requires c κs =
     let put = c .before .before .before .put-place-statement in
-    let room : length (put .last .0) ≡ 71 = search needs in
+    let room : length (put .last .0) ≡ statementMost = search needs in
     let start = c .before .before .before .before .before .before .before .before .before .before .before .before .before in
     (room, omega (arith, room, written-inside _ _ _ _ (put .ensures .0) (put .ensures .1)), start .pre .4)
 
@@ -66,13 +66,13 @@ returns-2 c =
     let a = start .args in
     let s = a .s .now in
     let roster = a .roster .now in
-    let room : length (put .put-place-statement .last .0) ≡ 71 = search needs in
+    let room : length (put .put-place-statement .last .0) ≡ statementMost = search needs in
     let done = put .put-place-statement .ensures in
     let message = padded-put _ _ _ (omega (arith, room, done .0, written-inside _ _ _ _ (done .0) (done .1))) (done .0) (done .1)
     ∙ ap (λ (t : ℕ). padded (placeStatement 1 (cluster roster) (a .width) t (a .stamp .index) (bytesOf (a .stamp .pointer)))) (read .number-at .ensures .0) in (
       omega (arith, c .before .before .add-use .ensures .0),
       c .before .before .add-use .ensures .1
-          ∙ ap (λ z. heldIn (a .n) (a .buffer .now) ++ z)
+          ∙ ap (λ z. entryUses (a .n) (a .buffer .now) ++ z)
           (entry-of _ _ _ _ _ (own-stamp roster s (a .width) (a .k) (a .stamp) (sym (tested .before .u16-at .ensures .0) ∙ tested .if1 .left))
           (put .before .before .before .u32-at .ensures .0) message),
     )

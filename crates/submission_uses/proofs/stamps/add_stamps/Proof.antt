@@ -4,8 +4,8 @@ use mathlib.Core.Path.{_≡_, refl, sym, ap, _∙_}
 use mathlib.Core.List.{[], _++_, map}
 use Prim.Native.Nat.{_+_, _-_, _*_, _≤_}
 use native.Mathlib.Omega.{arith}
-use borrow.Author.Needs.{needs}
 use lib.ListN.{length}
+use Rattle.lm_format.specs.Leaf.{leafSize}
 use Rattle.log_chain.specs.Log.{withTerms, pointer}
 use Rattle.log_chain.specs.Records.{recordsOf}
 use Rattle.log_chain.specs.Runs.{runs}
@@ -19,8 +19,8 @@ use Rattle.submission.proofs.Linked.{leadsFrom}
 use Rattle.submission_parts.proofs.Shapes.{known-leads, run-count, few-records, leaders-room, stamps-room as stamps-inside}
 use Rattle.submission_signatures.proofs.Turns.{fields-room, next-fields, stamps-room}
 use Rattle.submission_signatures.proofs.StampsLeft.{not-last, is-last}
-use Rattle.submission_leaves.specs.Held.{paddedUse, heldIn}
-use Rattle.submission_uses.specs.Signed.{useIn}
+use Rattle.submission_leaves.specs.Entries.{paddedUse, entryUses}
+use Rattle.submission_uses.specs.Signed.{slotUseIn}
 use Rattle.submission_uses.proofs.StampUses.{StampsToPut, none-to-put, checked, stamp-put}
 use Rattle.submission_uses.proofs.stamps.add_stamps.Statement.{statement}
 use Rattle.submission_uses.proofs.stamps.add_stamps.Tie as tie
@@ -30,8 +30,8 @@ Inv-loop roster s shape pointer k buffer₀ n width size left₀ at₀ stamp₀ 
     let w = shape .width in
     let S = shape .size in
     (certificatesEnd w S s left at ≤ length s) × (stamp + left * S ≤ length s) × (count + left ≤ n + shape .leaders) × (length buffer ≡ length buffer₀)
-    × ((wide : 4 ≤ S) → StampsToPut roster s w S k wide (recordsOf w (shape .records) s)
-    (heldIn n buffer₀ ++ map paddedUse (uses (useIn w roster) k (map (stampOf S) (leads (view w S s))))) (heldIn count buffer) left at stamp)
+    × ((wide : leafSize ≤ S) → StampsToPut roster s w S k wide (recordsOf w (shape .records) s)
+    (entryUses n buffer₀ ++ map paddedUse (uses (slotUseIn w roster) k (map (stampOf S) (leads (view w S s))))) (entryUses count buffer) left at stamp)
 
 abbrev μ-loop : tie.MeasureT-loop
 μ-loop roster s shape pointer k buffer₀ n width size left₀ at₀ stamp₀ count₀ buffer left at stamp count = left
@@ -126,7 +126,7 @@ loop-again c =
     let w = a .shape .width in
     let S = a .shape .size in
     let next = ended .certificate-end .ensures in
-    let now = heldIn (l .count) (l .buffer) in
+    let now = entryUses (l .count) (l .buffer) in
     rw next (
       rest-inside w S (a .s .now) (l .left) (l .at) (omega arith) (l .inv .0),
       stamps-room S (a .s .now) (l .left) (l .stamp) (omega arith) (l .inv .1),
@@ -181,7 +181,7 @@ returns-2 c =
     let w = a .shape .width in
     let S = a .shape .size in
     let wide = p .1 in
-    let now = heldIn (l .count) (l .buffer) in
+    let now = entryUses (l .count) (l .buffer) in
     let left = l .inv .4 wide in
     let as-checked = checked (a .roster .now) (a .s .now) w S (a .k) wide _ _ now (l .left) (l .at) (l .stamp) left (omega arith) in
     let end = is-last (a .roster .now) (a .s .now) w S _ (l .left) (l .at) (l .stamp) as-checked (omega arith) (omega arith) in

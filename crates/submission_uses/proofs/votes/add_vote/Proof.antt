@@ -2,8 +2,8 @@
 -- Assumes nothing.
 use mathlib.Core.Path.{_≡_, sym, ap, _∙_}
 use mathlib.Core.Bool.{true, false}
-use mathlib.Core.List.{List, _∷_, _++_}
-use Prim.Native.Nat.{ℕ, _+_, _-_, _≤_, _<_}
+use mathlib.Core.List.{_∷_, _++_}
+use Prim.Native.Nat.{ℕ, _+_, _-_, _<_}
 use native.Mathlib.Omega.{arith}
 use borrow.Author.Needs.{needs}
 use borrow.Author.Tests.{not-true, not-false}
@@ -16,8 +16,10 @@ use Rattle.roster.specs.Masks.{signer}
 use Rattle.roster.proofs.Accepted.{name-length}
 use Rattle.submission.specs.Reading.{ballotSize, signersAt, certificateEnd}
 use Rattle.submission.proofs.Certificates.{certificate-head}
-use Rattle.submission_leaves.specs.Held.{padded, heldIn}
-use Rattle.submission_leaves.proofs.Held.{padded-put}
+use Rattle.lm_format.specs.Leaf.{leafAt}
+use Rattle.submission.specs.Sizes.{statementMost}
+use Rattle.submission_leaves.specs.Entries.{padded, entryUses}
+use Rattle.submission_leaves.proofs.Entries.{padded-put}
 use Rattle.submission_uses.specs.Signed.{signaturePlace}
 use Rattle.submission_uses.proofs.Places.{leaf-inside}
 use Rattle.submission_uses.proofs.Gathered.{entry-of, no-entry, own-vote, no-vote}
@@ -93,7 +95,7 @@ put-vote-statement-requires c κs =
 add-use-requires : tie.Need-add-use-requires
 add-use-requires c κs =
     let put = c .before .before .before .put-vote-statement in
-    let room : length (put .last .0) ≡ 71 = search needs in
+    let room : length (put .last .0) ≡ statementMost = search needs in
     let start = c .before .before .before .before .before .before .before .before .before .before .before .before .before .before .before .before in
     (room, omega (arith, room, written-inside _ _ _ _ (put .ensures .0) (put .ensures .1)), start .pre .8)
 
@@ -114,16 +116,16 @@ returns-2 c =
     let signed = ap (λ (m : ℕ). signer m (a .k)) (sym mask) ∙ sym (tested .before .signer .ensures) ∙ not-false _ (tested .if1 .left) in
     let head = certificate-head (a .width) (a .size) s (a .at) in
     let count : a .at + sized .ballot-size .result - a .at ≡ ballotSize (a .width) = omega (arith, fields) in
-    let room : length (put .put-vote-statement .last .0) ≡ 71 = search needs in
+    let room : length (put .put-vote-statement .last .0) ≡ statementMost = search needs in
     let done = put .put-vote-statement .ensures in
     let message = padded-put _ _ _ (omega (arith, room, done .0, written-inside _ _ _ _ (done .0) (done .1))) (done .0) (done .1)
     ∙ ap (λ (j : ℕ). padded (3 ∷ cluster roster ++ take j (drop (a .at) s))) count in
     let place = put .before .before .before .before .before .signature-place .ensures
     ∙ (λ i. signaturePlace (mask i) (a .k) (a .size) (a .at + fields i + 2)) in
-    let leaf = put .before .before .before .before .u32-at .ensures .0 ∙ ap (numberAt 4 s) place in (
+    let leaf = put .before .before .before .before .u32-at .ensures .0 ∙ ap (leafAt s) place in (
       omega (arith, c .before .before .add-use .ensures .0),
       c .before .before .add-use .ensures .1
-          ∙ ap (λ z. heldIn (a .n) (a .buffer .now) ++ z)
+          ∙ ap (λ z. entryUses (a .n) (a .buffer .now) ++ z)
           (entry-of _ _ _ _ _ (own-vote roster s (a .width) (a .size) (a .at) (a .k) (p .6) (p .7) (p .2) (bytes-each s each) (omega (arith, head, p .4)) signed) leaf message),
     )
 

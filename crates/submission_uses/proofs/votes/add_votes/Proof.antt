@@ -1,18 +1,17 @@
 -- One leader certificate a turn.
 -- Assumes nothing.
-use mathlib.Core.Path.{_≡_, refl, ap, _∙_}
+use mathlib.Core.Path.{_≡_, refl, _∙_}
 use mathlib.Core.List.{_++_, map, flatMap}
-use Prim.Native.Nat.{_+_, _*_, _≤_}
+use Prim.Native.Nat.{_+_, _≤_}
 use native.Mathlib.Omega.{arith}
-use borrow.Author.Needs.{needs}
 use lib.ListN.{length}
 use Rattle.submission.specs.Reading.{certificates, certificatesEnd, view}
 use Rattle.submission.specs.Validate.{uses}
 use Rattle.submission.proofs.Certificates.{rest-inside, first-inside}
 use Rattle.submission_parts.proofs.Shapes.{known-certificates, leaders-room}
 use Rattle.submission_signatures.specs.Votes.{ballots}
-use Rattle.submission_leaves.specs.Held.{paddedUse, heldIn}
-use Rattle.submission_uses.specs.Signed.{useIn}
+use Rattle.submission_leaves.specs.Entries.{paddedUse, entryUses}
+use Rattle.submission_uses.specs.Signed.{slotUseIn}
 use Rattle.submission_uses.proofs.Gathered.{votes-next, votes-done}
 use Rattle.submission_uses.proofs.votes.add_votes.Statement.{statement}
 use Rattle.submission_uses.proofs.votes.add_votes.Tie as tie
@@ -22,8 +21,8 @@ Inv-loop roster s shape k buffer₀ n left₀ at₀ count₀ buffer left at coun
     let w = shape .width in
     let S = shape .size in
     (certificatesEnd w S s left at ≤ length s) × (count + left ≤ n + shape .leaders) × (length buffer ≡ length buffer₀)
-    × (heldIn count buffer ++ map paddedUse (uses (useIn w roster) k (flatMap (ballots S) (certificates w S s left at)))
-    ≡ heldIn n buffer₀ ++ map paddedUse (uses (useIn w roster) k (flatMap (ballots S) (view w S s .leaders))))
+    × (entryUses count buffer ++ map paddedUse (uses (slotUseIn w roster) k (flatMap (ballots S) (certificates w S s left at)))
+    ≡ entryUses n buffer₀ ++ map paddedUse (uses (slotUseIn w roster) k (flatMap (ballots S) (view w S s .leaders))))
 
 abbrev μ-loop : tie.MeasureT-loop
 μ-loop roster s shape k buffer₀ n left₀ at₀ count₀ buffer left at count = left
@@ -69,14 +68,14 @@ loop-again c =
       rest-inside (a .shape .width) (a .shape .size) (a .s .now) (l .left) (l .at) (omega arith) (l .inv .0),
       omega (arith, l .inv .1, put .ensures .0),
       put .kept .1 .1 .1 .1 .1 .1 .0 ∙ l .inv .2,
-      votes-next _ (a .shape .width) (a .shape .size) (a .s .now) (a .k) (l .left) (l .at) (omega arith) (heldIn (l .count) (l .buffer)) (put .ensures .1) (l .inv .3),
+      votes-next _ (a .shape .width) (a .shape .size) (a .s .now) (a .k) (l .left) (l .at) (omega arith) (entryUses (l .count) (l .buffer)) (put .ensures .1) (l .inv .3),
     )
 
 returns : tie.Need-returns Inv-loop μ-loop
 returns c =
     let l = c .before .loop in
     let a = c .before .before .before .before .before .args in
-    (omega (arith, l .inv .1), votes-done _ (a .shape .width) (a .shape .size) (a .s .now) (a .k) (l .left) (l .at) (omega arith) (heldIn (l .count) (l .buffer)) (l .inv .3))
+    (omega (arith, l .inv .1), votes-done _ (a .shape .width) (a .shape .size) (a .s .now) (a .k) (l .left) (l .at) (omega arith) (entryUses (l .count) (l .buffer)) (l .inv .3))
 
 pub add-votes-spec : {M : Type 1} → statement M
 add-votes-spec =

@@ -2,7 +2,7 @@
 -- Assumes nothing.
 use mathlib.Core.Path.{_≡_, refl, sym, ap, _∙_}
 use mathlib.Core.Bool.{Bool, true, false, not, cond}
-use mathlib.Core.List.{List, [], _∷_, _++_, map, append-assoc}
+use mathlib.Core.List.{List, [], _∷_, _++_, append-assoc}
 use Prim.Native.Nat.{ℕ, zero, suc, _+_, _-_, _*_, _≤_, _<_}
 use native.Mathlib.Nat.{mul-suc, add-comm}
 use native.Mathlib.Numerals.{add-one}
@@ -18,7 +18,7 @@ use Rattle.lm_format.specs.Leaf.{leafNumber}
 use Rattle.lm_format.specs.Uses.{Use, useOf, reused}
 use Rattle.submission.specs.Sizes.{statementMost}
 use Rattle.lm_format.proofs.Leaf.{leaf-same, leaves-differ}
-use Rattle.submission_leaves.specs.Held.{entrySize, padded, paddedUse, held, heldIn, heldAt, reusedIn}
+use Rattle.submission_leaves.specs.Entries.{entrySize, padded, paddedUse, entryUse, entryUses, entryUseAt, reusedIn}
 
 -- ---- one more entry
 
@@ -36,22 +36,22 @@ module _ (E j k : ℕ) (b c vs : List ℕ) (room : E + j ≤ length b) (e : take
   later-part : take k (drop E c) ≡ take j (drop E b) ++ vs
   later-part = sym (drop-take E k c) ∙ ap (drop E) split ∙ drop-at (take E b) (take j (drop E b) ++ vs) E long
 
-held-more : (n : ℕ) (b c vs : List ℕ) → entrySize * n ≤ length b → take (entrySize * n + entrySize) c ≡ take (entrySize * n) b ++ vs
-    → heldIn (suc n) c ≡ heldIn n b ++ (held vs ∷ [])
-unfolding heldIn
-held-more zero b c vs room e = ap (λ z. held z ∷ []) e
-held-more (suc n) b c vs room e =
+entry-more : (n : ℕ) (b c vs : List ℕ) → entrySize * n ≤ length b → take (entrySize * n + entrySize) c ≡ take (entrySize * n) b ++ vs
+    → entryUses (suc n) c ≡ entryUses n b ++ (entryUse vs ∷ [])
+unfolding entryUses
+entry-more zero b c vs room e = ap (λ z. entryUse z ∷ []) e
+entry-more (suc n) b c vs room e =
     let size : entrySize * suc n ≡ entrySize + entrySize * n = rw mul-suc (add-comm (entrySize * n) entrySize) in
     let whole : entrySize * suc n + entrySize ≡ entrySize + (entrySize * n + entrySize) = omega arith in
     let begun : take (entrySize + (entrySize * n + entrySize)) c ≡ take (entrySize + entrySize * n) b ++ vs = rw (whole, size) at e in
     let inside : entrySize + entrySize * n ≤ length b = omega arith in
     let rest = later-part entrySize (entrySize * n) (entrySize * n + entrySize) b c vs inside begun in
-    λ i. held (first-part entrySize (entrySize * n) (entrySize * n + entrySize) b c vs inside begun i) ∷ held-more n (drop entrySize b) (drop entrySize c) vs (rw length-drop (omega arith)) rest i
+    λ i. entryUse (first-part entrySize (entrySize * n) (entrySize * n + entrySize) b c vs inside begun i) ∷ entry-more n (drop entrySize b) (drop entrySize c) vs (rw length-drop (omega arith)) rest i
 
 -- the bytes of an entry: the leaf's number, and the padded message
-entry-held : (leaf : ℕ) (p : List ℕ) → leaf < 4294967296 → held (be 4 leaf ++ p) ≡ useOf leaf p
-unfolding held numberAt
-entry-held leaf p h =
+entry-read : (leaf : ℕ) (p : List ℕ) → leaf < 4294967296 → entryUse (be 4 leaf ++ p) ≡ useOf leaf p
+unfolding entryUse numberAt
+entry-read leaf p h =
     let q : number (take 4 (be 4 leaf ++ p)) ≡ leaf = ap number (take-at (be 4 leaf) p 4 (length-be 4 leaf)) ∙ number-be 4 leaf h in
     λ i. useOf (q i) (drop-at (be 4 leaf) p 4 (length-be 4 leaf) i)
 
@@ -59,7 +59,7 @@ entry-held leaf p h =
 pub entry-added : (n leaf size : ℕ) (b c statement : List ℕ) → leaf < 4294967296 → length statement ≡ statementMost
     → entrySize * (n + 1) ≤ length b
     → c ≡ sets (sets (sets b (entrySize * n) (be 4 leaf)) (entrySize * n + 4) (size ∷ [])) (entrySize * n + 4 + 1) statement
-    → heldIn (n + 1) c ≡ heldIn n b ++ (useOf leaf (size ∷ statement) ∷ [])
+    → entryUses (n + 1) c ≡ entryUses n b ++ (useOf leaf (size ∷ statement) ∷ [])
 entry-added n leaf size b c statement small long room stored =
     let at = entrySize * n in
     let entry = be 4 leaf ++ (size ∷ statement) in
@@ -76,7 +76,7 @@ entry-added n leaf size b c statement small long room stored =
     stored ∙ ap (λ z. sets z (at + 4 + 1) statement) first ∙ both ∙ ap (sets b at) (append-assoc (be 4 leaf) (size ∷ []) statement) in
     let taken : take (at + entrySize) c ≡ take at b ++ entry =
     ap (λ z. take (at + entrySize) z) all ∙ ap (λ (k : ℕ). take (at + k) (sets b at entry)) (sym whole) ∙ take-sets b entry at room' in
-    ap (λ (k : ℕ). heldIn k c) (add-one n) ∙ held-more n b c entry (omega arith) taken ∙ ap (λ z. heldIn n b ++ (z ∷ [])) (entry-held leaf (size ∷ statement) small)
+    ap (λ (k : ℕ). entryUses k c) (add-one n) ∙ entry-more n b c entry (omega arith) taken ∙ ap (λ z. entryUses n b ++ (z ∷ [])) (entry-read leaf (size ∷ statement) small)
 
 -- ---- a padded message
 
@@ -101,7 +101,7 @@ padded-injective m n e =
     let rest : m ++ replicate (statementMost - length m) 0 ≡ n ++ replicate (statementMost - length n) 0 = ap (drop 1) e in
     sym (take-at m _ (length m) refl) ∙ ap (take (length m)) rest ∙ take-at n _ (length m) (sym size)
 
-pub padded-same : (m n : List ℕ) → same (padded m) (padded n) ≡ same m n
+padded-same : (m n : List ℕ) → same (padded m) (padded n) ≡ same m n
 padded-same m n =
     same-test (same (padded m) (padded n)) m n
     ((λ e. padded-injective m n (same-true (padded m) (padded n) e)), (λ (e : m ≡ n). rw e (true-same (padded n))))
@@ -124,49 +124,49 @@ module _ (b : List ℕ) where
       drop-take 4 72 (drop at b) ∙ rw (size, drop-drop)
 
   module _ (one other : ℕ) where
-    pub other-leaf : (numberAt 4 b one ≡ numberAt 4 b other → ⊥) → false ≡ reused (held (take entrySize (drop one b))) (held (take entrySize (drop other b)))
-    unfolding reused held useOf
+    pub other-leaf : (numberAt 4 b one ≡ numberAt 4 b other → ⊥) → false ≡ reused (entryUse (take entrySize (drop one b))) (entryUse (take entrySize (drop other b)))
+    unfolding reused entryUse useOf
     other-leaf h = rw (entry-leaf one, entry-leaf other, leaves-differ (numberAt 4 b one) (numberAt 4 b other) h)
 
     pub by-messages : (r : Bool) → numberAt 4 b one ≡ numberAt 4 b other
         → r ≡ same (take (one + entrySize - (one + 4)) (drop (one + 4) b)) (take (other + entrySize - (other + 4)) (drop (other + 4) b))
-        → not r ≡ reused (held (take entrySize (drop one b))) (held (take entrySize (drop other b)))
-    unfolding reused held useOf
+        → not r ≡ reused (entryUse (take entrySize (drop one b))) (entryUse (take entrySize (drop other b)))
+    unfolding reused entryUse useOf
     by-messages r h e = rw (entry-leaf one, entry-leaf other, leaf-same _ _ h, entry-message one, entry-message other, e)
 
 -- ---- the number of an entry's leaf
 
-pub held-number : (b : List ℕ) (i : ℕ) → numberAt 4 b (entrySize * i) ≡ leafNumber (heldAt i b .leaf)
-unfolding leafNumber heldAt held useOf
-held-number b i = sym (entry-leaf b (entrySize * i))
+pub entry-number : (b : List ℕ) (i : ℕ) → numberAt 4 b (entrySize * i) ≡ leafNumber (entryUseAt i b .leaf)
+unfolding leafNumber entryUseAt entryUse useOf
+entry-number b i = sym (entry-leaf b (entrySize * i))
 
 -- ---- the entries that are left
 
-pub left-first : (b : List ℕ) (n j : ℕ) → j < n → heldIn (n - j) (drop (entrySize * j) b) ≡ heldAt j b ∷ heldIn (n - (j + 1)) (drop (entrySize * (j + 1)) b)
-unfolding heldIn heldAt
+pub left-first : (b : List ℕ) (n j : ℕ) → j < n → entryUses (n - j) (drop (entrySize * j) b) ≡ entryUseAt j b ∷ entryUses (n - (j + 1)) (drop (entrySize * (j + 1)) b)
+unfolding entryUses entryUseAt
 left-first b n j h =
     let count : n - j ≡ suc (n - (j + 1)) = omega arith in
     let place : entrySize * j + entrySize ≡ entrySize * (j + 1) = omega arith in
-    rw count (ap (λ z. held (take entrySize (drop (entrySize * j) b)) ∷ heldIn (n - (j + 1)) z) (drop-drop entrySize (entrySize * j) b ∙ ap (λ (k : ℕ). drop k b) place))
+    rw count (ap (λ z. entryUse (take entrySize (drop (entrySize * j) b)) ∷ entryUses (n - (j + 1)) z) (drop-drop entrySize (entrySize * j) b ∙ ap (λ (k : ℕ). drop k b) place))
 
 module _ (b : List ℕ) (n : ℕ) (x : Use) where
   pub record ReusedLeft (j : ℕ) : Type 0 where
-    pub answer : reusedIn x (heldIn (n - j) (drop (entrySize * j) b)) ≡ reusedIn x (heldIn n b)
+    pub answer : reusedIn x (entryUses (n - j) (drop (entrySize * j) b)) ≡ reusedIn x (entryUses n b)
 
   pub all-left : ReusedLeft 0
-  all-left = let whole : n - 0 ≡ n = omega arith in record { answer = ap (λ (k : ℕ). reusedIn x (heldIn k b)) whole }
+  all-left = let whole : n - 0 ≡ n = omega arith in record { answer = ap (λ (k : ℕ). reusedIn x (entryUses k b)) whole }
 
-  module _ (j : ℕ) (left : ReusedLeft j) (more : j < n) {r : Bool} (asked : r ≡ reused x (heldAt j b)) where
-    step : cond r true (reusedIn x (heldIn (n - (j + 1)) (drop (entrySize * (j + 1)) b))) ≡ reusedIn x (heldIn n b)
+  module _ (j : ℕ) (left : ReusedLeft j) (more : j < n) {r : Bool} (asked : r ≡ reused x (entryUseAt j b)) where
+    step : cond r true (reusedIn x (entryUses (n - (j + 1)) (drop (entrySize * (j + 1)) b))) ≡ reusedIn x (entryUses n b)
     unfolding reusedIn
     step = rw asked (rw (left-first b n j more) at (left .answer))
 
-    pub found : r ≡ true → true ≡ reusedIn x (heldIn n b)
+    pub found : r ≡ true → true ≡ reusedIn x (entryUses n b)
     found e = rw e at step
 
     pub not-found : r ≡ false → ReusedLeft (j + 1)
     not-found e = record { answer = rw e at step }
 
-  pub none-left : (j : ℕ) → ReusedLeft j → n ≤ j → false ≡ reusedIn x (heldIn n b)
-  unfolding reusedIn heldIn
+  pub none-left : (j : ℕ) → ReusedLeft j → n ≤ j → false ≡ reusedIn x (entryUses n b)
+  unfolding reusedIn entryUses
   none-left j left h = let none : n - j ≡ 0 = omega arith in rw none at (left .answer)

@@ -4,13 +4,9 @@ use mathlib.Core.Bool.{Bool, true, false, cond}
 use mathlib.Core.List.{List, [], _∷_, _++_}
 use Prim.Native.Nat.{ℕ, zero, suc, _+_, _-_, _*_}
 use lib.ListN.{length, take, drop, replicate}
-use Rattle.words.specs.BigEndian.{numberAt}
+use Rattle.lm_format.specs.Leaf.{leafSize, leafAt}
 use Rattle.lm_format.specs.Uses.{Use, useOf, reused}
 use Rattle.submission.specs.Sizes.{statementMost}
-
--- the bytes of a leaf's number
-abbrev pub leafSize : ℕ
-leafSize = 4
 
 -- the bytes of an entry
 abbrev pub entrySize : ℕ
@@ -24,17 +20,17 @@ unfoldable pub paddedUse : Use → Use
 paddedUse u = useOf (u .leaf) (padded (u .message))
 
 -- the use that an entry is, with its message padded
-unfoldable pub held : List ℕ → Use
-held entry = useOf (numberAt 4 entry 0) (drop 4 entry)
+unfoldable pub entryUse : List ℕ → Use
+entryUse entry = useOf (leafAt entry 0) (drop leafSize entry)
 
 -- those of the first n entries
-unfoldable pub heldIn : ℕ → List ℕ → List Use
-heldIn zero buffer = []
-heldIn (suc n) buffer = held (take entrySize buffer) ∷ heldIn n (drop entrySize buffer)
+unfoldable pub entryUses : ℕ → List ℕ → List Use
+entryUses zero buffer = []
+entryUses (suc n) buffer = entryUse (take entrySize buffer) ∷ entryUses n (drop entrySize buffer)
 
 -- that of entry i, from 0
-unfoldable pub heldAt : ℕ → List ℕ → Use
-heldAt i buffer = held (take entrySize (drop (entrySize * i) buffer))
+unfoldable pub entryUseAt : ℕ → List ℕ → Use
+entryUseAt i buffer = entryUse (take entrySize (drop (entrySize * i) buffer))
 
 -- one of some uses has the leaf of another use, and a different message
 unfoldable pub reusedIn : Use → List Use → Bool
