@@ -41,9 +41,13 @@ allCharges asUse k xs ys = let us = uses asUse k (xs ++ ys) in charges k xs ys +
 
 -- ---- the rows
 
--- the lowest rule broken and, for that rule, the lowest term or leaf number
+-- the rules' order for choosing a row (document 02, W6): 2, 1, 3, 4, 5
+unfoldable pub rank : ℕ → ℕ
+rank rule = cond (eqb rule 2) 0 (suc rule)
+
+-- of the rules broken the first in this order and, for that rule, the lowest term or leaf number
 unfoldable pub sooner : Charge → Charge → Bool
-sooner c d = staler (c .rule) (c .term) (d .rule) (d .term)
+sooner c d = staler (rank (c .rule)) (c .term) (rank (d .rule)) (d .term)
 
 unfoldable pub lower : Charge → Option Charge → Charge
 lower c none = c

@@ -1,83 +1,23 @@
--- The lowest charge of lists joined is the lower of their lowest, in whatever order the lists are taken: `sooner` is the order of pairs of
--- numbers, rule first, and so `least` is associative and commutative.
+-- The lowest charge of lists joined is the lower of their lowest, in whatever order the lists are taken: `sooner` is an order, and so `least`
+-- is associative and commutative.
 -- Assumes nothing.
 use mathlib.Core.Path.{_≡_, refl, sym, ap, _∙_}
-use mathlib.Core.Bool.{true, false, cond, true≢false}
+use mathlib.Core.Bool.{true, false, cond}
 use mathlib.Core.List.{List, [], _∷_, _++_, flatMap}
 use mathlib.Core.Logic.{_⊎_, inl, inr}
 use mathlib.Core.Option.{Option, some, none}
-use Prim.Native.Nat.{ℕ}
-use native.Mathlib.Omega.{arith}
-use borrow.Author.Tests.{eqb-true, ltb-true}
-use lib.Dec.{eqb, ltb}
 use Rattle.refusal.proofs.Laws.{look}
-use Rattle.log_chain.specs.Ends.{staler}
 use Rattle.replica.specs.Charges.{Charge}
-use Rattle.log_chain.proofs.Order.{Fresh, fresh, not-staler, fresh-trans}
 use Rattle.forensics.specs.Findings.{sooner, lower, lowest}
+use Rattle.forensics.proofs.Order.{alike, not-both, not-itself, not-sooner-trans, sooner-trans}
 use Rattle.forensics_charges.specs.Charges.{least}
 
--- ---- the order
-
--- a staler end is not after the other
-stale-before : (t i u j : ℕ) → staler t i u j ≡ true → Fresh u j t i
-unfolding staler
-stale-before t i u j = go (look (eqb t u))
-  where
-    go : (eqb t u ≡ true) ⊎ (eqb t u ≡ false) → cond (eqb t u) (ltb i j) (ltb t u) ≡ true → Fresh u j t i
-    go (inl e) h =
-        record { terms = omega (arith, eqb-true t u e); index = λ d. omega (arith, ltb-true i j (rw e at h)) }
-    go (inr e) h =
-        let below = ltb-true t u (rw e at h) in record { terms = omega (arith, below); index = λ d. absurd (omega (arith, below)) }
-
--- c is not before d
-abbrev From : Charge → Charge → Type 0
-From c d = Fresh (c .rule) (c .term) (d .rule) (d .term)
-
-from : (c d : Charge) → sooner c d ≡ false → From c d
-unfolding sooner
-from c d e = fresh _ _ _ _ e
-
-not-sooner : (c d : Charge) → From c d → sooner c d ≡ false
-unfolding sooner
-not-sooner c d f = not-staler _ _ _ _ f
-
-after : (c d : Charge) → sooner c d ≡ true → From d c
-unfolding sooner
-after c d e = stale-before _ _ _ _ e
-
--- neither before the other
-alike : (c d : Charge) → sooner c d ≡ false → sooner d c ≡ false → c ≡ d
-alike c d e h =
-    let f = from c d e in
-    let g = from d c h in
-    let rule : c .rule ≡ d .rule = omega (arith, f .terms, g .terms) in
-    let term : c .term ≡ d .term = omega (arith, f .index (sym rule), g .index rule) in
-    λ k. record { rule = rule k; term = term k }
+-- ---- the lower of two
 
 -- two charges of one rule and term
 pub lower-twice : (c : Charge) → lower c (some c) ≡ c
 unfolding lower
-lower-twice c = go (look (sooner c c))
-  where
-    go : (sooner c c ≡ true) ⊎ (sooner c c ≡ false) → cond (sooner c c) c c ≡ c
-    go (inl e) = rw e
-    go (inr e) = rw e
-
-not-both : (c d : Charge) → sooner c d ≡ true → sooner d c ≡ false
-not-both c d e = not-sooner d c (after c d e)
-
-not-sooner-trans : (c d e : Charge) → sooner e d ≡ false → sooner d c ≡ false → sooner e c ≡ false
-not-sooner-trans c d e p q = not-sooner e c (fresh-trans (from e d p) (from d c q))
-
-sooner-trans : (c d e : Charge) → sooner e d ≡ true → sooner d c ≡ true → sooner e c ≡ true
-sooner-trans c d e p q = go (look (sooner e c))
-  where
-    go : (sooner e c ≡ true) ⊎ (sooner e c ≡ false) → sooner e c ≡ true
-    go (inl h) = h
-    go (inr h) = absurd (true≢false (sym q ∙ not-sooner d c (fresh-trans (after e d p) (from e c h))))
-
--- ---- the lower of two
+lower-twice c = rw (not-itself c)
 
 lower-comm : (c d : Charge) → cond (sooner d c) d c ≡ cond (sooner c d) c d
 lower-comm c d = go (look (sooner d c)) (look (sooner c d))

@@ -9,7 +9,7 @@ use native.Mathlib.Omega.{arith}
 use borrow.Author.Tests.{eq-eqb, ne-eqb}
 use Rattle.log_chain.specs.Ends.{staler}
 use Rattle.replica.specs.Charges.{Charge, charge}
-use Rattle.forensics.specs.Findings.{sooner, lower, lowest}
+use Rattle.forensics.specs.Findings.{rank, sooner, lower, lowest}
 use Rattle.forensics_charges.specs.declared.Row.{Row}
 use Rattle.forensics_charges.specs.Charges.{least, chargeOf}
 use Rattle.forensics_charges.proofs.Lowest.{lowest-append}
@@ -30,6 +30,10 @@ module _ (x : Row) where
 
 -- ---- the lower of two rows
 
+-- two numbers that are ranks, compared
+pub ranks : {a b : ℕ} (r t s u : ℕ) → a ≡ rank r → b ≡ rank s → staler a t b u ≡ staler (rank r) t (rank s) u
+ranks r t s u e d = rw (e, d)
+
 module _ (x y : Row) where
   pub first-none : x .rule ≡ 0 → chargeOf y ≡ least (chargeOf x) (chargeOf y)
   unfolding least
@@ -41,11 +45,11 @@ module _ (x y : Row) where
     second-none h = rw (charge-some x first, charge-none y h)
 
     module _ (second : y .rule ≡ 0 → ⊥) where
-      pub second-lower : staler (y .rule) (y .term) (x .rule) (x .term) ≡ true → chargeOf y ≡ least (chargeOf x) (chargeOf y)
+      pub second-lower : staler (rank (y .rule)) (y .term) (rank (x .rule)) (x .term) ≡ true → chargeOf y ≡ least (chargeOf x) (chargeOf y)
       unfolding least lower sooner chargeIn
       second-lower e = rw (charge-some x first, charge-some y second, e)
 
-      pub first-lower : staler (y .rule) (y .term) (x .rule) (x .term) ≡ false → chargeOf x ≡ least (chargeOf x) (chargeOf y)
+      pub first-lower : staler (rank (y .rule)) (y .term) (rank (x .rule)) (x .term) ≡ false → chargeOf x ≡ least (chargeOf x) (chargeOf y)
       unfolding least lower sooner chargeIn
       first-lower e = rw (charge-some x first, charge-some y second, e)
 

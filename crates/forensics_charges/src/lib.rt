@@ -5,6 +5,7 @@ ghost use mathlib.Core.List.{[]};
 ghost use Prim.Native.Nat.{_<_};
 ghost use Rattle.replica.specs.Charges.{charge};
 ghost use Rattle.forensics.specs.Findings.{lowest};
+ghost use Rattle.forensics.specs.Findings as order;
 ghost use Rattle.forensics_charges.specs.Rules.{forgotten};
 ghost use Rattle.forensics_charges.specs.Charges as inner;
 
@@ -51,7 +52,17 @@ pub fn unnamed_row() -> Row
     Row { rule: 0, term: 0 }
 }
 
-// The lower of two rows: the lower rule and, for that rule, the lower term.
+// A rule's place in the order for choosing a row (document 02, W6).
+fn rank(rule: u8) -> u64
+    ensures { λ r. ⌜ r ≡ order.rank rule ⌝ }
+{
+    if rule == 2 {
+        return 0;
+    }
+    rule as u64 + 1
+}
+
+// The lower of two rows: that of the rule which is first in this order and, for one rule, the lower term.
 pub fn lower_row(x: Row, y: Row) -> Row
     ensures { λ r. ⌜ inner.chargeOf r ≡ inner.least (inner.chargeOf x) (inner.chargeOf y) ⌝ }
 {
@@ -61,7 +72,7 @@ pub fn lower_row(x: Row, y: Row) -> Row
     if y.rule == 0 {
         return x;
     }
-    if rules::end_staler(y.rule as u64, y.term, x.rule as u64, x.term) {
+    if rules::end_staler(rank(y.rule), y.term, rank(x.rule), x.term) {
         return y;
     }
     x

@@ -7,7 +7,7 @@ use mathlib.Core.Logic.{_⊎_, inl, inr}
 use Prim.Native.Nat.{ℕ, zero, suc, _≤_, _<_, zero-le}
 use native.Mathlib.Nat.{le-refl}
 use native.Mathlib.Omega.{arith}
-use borrow.Author.Tests.{ltb-false, eqb-true, eqb-false, leb-true, le-ltb, le-leb}
+use borrow.Author.Tests.{ltb-true, ltb-false, eqb-true, eqb-false, leb-true, eq-eqb, ne-eqb, lt-ltb, le-ltb, le-leb}
 use lib.Dec.{eqb, ltb, leb}
 use lib.ListN.{take}
 use Rattle.refusal.proofs.Laws.{look, cond-true}
@@ -37,6 +37,17 @@ not-staler u j t i f = go (look (eqb u t))
     go (inl e) = rw e (le-ltb j i (f .index (sym (eqb-true u t e))))
     go (inr e) = rw e (le-ltb u t (f .terms))
 
+-- a staler end is not after the other
+pub stale-before : (t i u j : ℕ) → staler t i u j ≡ true → Fresh u j t i
+unfolding staler
+stale-before t i u j = go (look (eqb t u))
+  where
+    go : (eqb t u ≡ true) ⊎ (eqb t u ≡ false) → cond (eqb t u) (ltb i j) (ltb t u) ≡ true → Fresh u j t i
+    go (inl e) h =
+        record { terms = omega (arith, eqb-true t u e); index = λ d. omega (arith, ltb-true i j (rw e at h)) }
+    go (inr e) h =
+        let below = ltb-true t u (rw e at h) in record { terms = omega (arith, below); index = λ d. absurd (omega (arith, below)) }
+
 pub fresh-trans : {v k u j t i : ℕ} → Fresh v k u j → Fresh u j t i → Fresh v k t i
 fresh-trans {v} {k} {u} {j} {t} {i} f g =
     record {
@@ -45,6 +56,19 @@ fresh-trans {v} {k} {u} {j} {t} {i} f g =
           let uv : u ≡ v = omega (arith, f .terms, g .terms) in
           omega (arith, g .index tu, f .index uv);
     }
+
+-- numbers in the order of others: terms r' and s' for r and s
+pub staler-alike : (r s t u : ℕ) (r' s' : ℕ) → (r ≡ s → r' ≡ s') → (r < s → r' < s') → (s < r → s' < r') → staler r' t s' u ≡ staler r t s u
+unfolding staler
+staler-alike r s t u r' s' same less more = go (look (eqb r s)) (look (ltb r s))
+  where
+    go : (eqb r s ≡ true) ⊎ (eqb r s ≡ false) → (ltb r s ≡ true) ⊎ (ltb r s ≡ false)
+        → cond (eqb r' s') (ltb t u) (ltb r' s') ≡ cond (eqb r s) (ltb t u) (ltb r s)
+    go (inl e) h = rw (e, eq-eqb r' s' (same (eqb-true r s e)))
+    go (inr e) (inl h) = let below = less (ltb-true r s h) in rw (e, h, ne-eqb r' s' (λ d. omega (arith, below, d)), lt-ltb r' s' below)
+    go (inr e) (inr h) =
+        let above = more (omega (arith, ltb-false r s h, eqb-false r s e)) in
+        rw (e, h, ne-eqb r' s' (λ d. omega (arith, above, d)), le-ltb r' s' (omega (arith, above)))
 
 -- ---- terms of a log
 

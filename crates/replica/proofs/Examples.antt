@@ -16,7 +16,7 @@ use Rattle.log_chain.specs.Log.{Form, version1, Record, termFrom, lastTerm}
 use Rattle.log_chain.specs.Claim.{Ballot, Claim, stamped, received, voted, place, ballotBytes, say}
 use Rattle.log_chain.specs.Ends.{rising, staler}
 use Rattle.replica.specs.Replica.{Signing, signing, State, Act, raise, vote, run, add, stamp, receipt, decline, restart, fitsTerm, fitsIndex, fitsRecords, sameRequest, oneRequest, noStamp, noStaler, rules, signs, useIn, oneMessage, leafRule, allowed, first, moved, after, keeps, signed, held}
-use Rattle.replica.specs.Charges.{charge, twoVotes, twoStamps, staleVote, leafClash}
+use Rattle.replica.specs.Charges.{charge, clash, twoVotes, twoStamps, staleVote, leafClash}
 use Rattle.log_chain.specs.Difference.{agree, sameRecord}
 
 -- a record of a term, with one byte of its payload digest
@@ -106,6 +106,15 @@ vote-charges : (let a = ballot 1 4 3 1 in let b = ballotOn (1 ∷ replicate 31 0
     × (twoVotes a (ballotOn (1 ∷ replicate 31 0) 1 4 3 1) ≡ true) × (twoVotes (ballotOn (replicate 31 0 ++ (1 ∷ [])) 1 4 3 1) a ≡ true))
 unfolding ballot ballotOn same all sameRequest twoVotes
 vote-charges = (refl, refl, refl, refl, refl, refl, refl, refl, refl)
+
+-- the rules' numbers, and whose term a charge has: 1 two votes, 2 two stamps, 3 a receipt and a vote, 4 the same exchanged (5: `leaf-charges`)
+rule-numbers : (let a = ballot 1 5 3 6 in let l = replicate 7 (of 3 0) in let m = replicate 7 (of 3 1) in
+    (clash (voted a) (voted (ballot 2 5 3 6)) ≡ record { rule = 1; term = 5 } ∷ [])
+    × (clash (stamped 4 l) (stamped 4 m) ≡ record { rule = 2; term = 4 } ∷ [])
+    × (clash (received 3 l) (voted a) ≡ record { rule = 3; term = 5 } ∷ [])
+    × (clash (voted a) (received 3 l) ≡ record { rule = 4; term = 5 } ∷ []))
+unfolding of ballot ballotOn clash charge twoVotes twoStamps staleVote staler sameRequest all same agree sameRecord
+rule-numbers = (refl, refl, refl, refl)
 
 -- ---- what the rules leave open: acts that a stricter rule would forbid, and beside them some that are forbidden
 

@@ -219,7 +219,7 @@ module _ (form : Form) (n : ℕ) where
   free-votes : (a b : Ballot) → (a .term ≡ b .term → a ≡ b) → Free (voted a) (voted b)
   unfolding clash
   free-votes a b h =
-      (no-charge _ 1 _ (two-votes a b h), no-charge _ 1 _ (two-votes b a (λ d. sym (h (sym d)))))
+      (no-charge _ _ _ (two-votes a b h), no-charge _ _ _ (two-votes b a (λ d. sym (h (sym d)))))
 
   two-stamps : (t u : ℕ) (l m : List Record) → (t ≡ u → agree l m ≡ true) → twoStamps t l u m ≡ false
   unfolding twoStamps
@@ -233,7 +233,7 @@ module _ (form : Form) (n : ℕ) where
   unfolding clash Begins
   free-stamps t u l m h =
       let ahead : (d : t ≡ u) → (agree l m ≡ true) × (agree m l ≡ true) = λ d. rw (sym (h d .1)) (agree-begins l (h d .0)) in
-      (no-charge _ 2 _ (two-stamps t u l m (λ d. ahead d .0)), no-charge _ 2 _ (two-stamps u t m l (λ d. ahead (sym d) .1)))
+      (no-charge _ _ _ (two-stamps t u l m (λ d. ahead d .0)), no-charge _ _ _ (two-stamps u t m l (λ d. ahead (sym d) .1)))
 
   stale-vote : (t : ℕ) (l : List Record) (b : Ballot) → (t < b .term → Fresh (b .lastTerm) (b .lastIndex) t (length l)) → staleVote t l b ≡ false
   unfolding staleVote
@@ -247,7 +247,7 @@ module _ (form : Form) (n : ℕ) where
   free-receipt : (t : ℕ) (l : List Record) (b : Ballot) → (t < b .term → Fresh (b .lastTerm) (b .lastIndex) t (length l))
       → Free (received t l) (voted b)
   unfolding clash
-  free-receipt t l b h = let f = stale-vote t l b h in (no-charge _ 3 _ f, no-charge _ 4 _ f)
+  free-receipt t l b h = let f = stale-vote t l b h in (no-charge _ _ _ f, no-charge _ _ _ f)
 
   new-vote : (s : State) (q : Leaf) (b : Ballot) → allowed form n s (vote q b) ≡ true → Sound s → New s (vote q b) (voted b)
   unfolding after moved clash
