@@ -156,9 +156,9 @@ struct hirelog_lms_answer hirelog_lms_check(const uint8_t *key, size_t key_len,
  *   bytes 2 to 5  the fork index, 0 if there is none;
  *   bytes 6 to 7  the replicas named: bit k - 1, counted from the lowest, is replica k, which has
  *                 the roster's key k;
- *   bytes 8 to 52 nine rows of 5 bytes, for replicas 1 to 9: the lowest rule that the replica broke
- *                 (1 byte) and the lowest term for it, or for rule 5 the lowest leaf number (4
- *                 bytes); 0 and 0 if it is not named.
+ *   bytes 8 to 52 nine rows of 5 bytes, for replicas 1 to 9: of the rules that the replica broke the
+ *                 first in the order 2, 1, 3, 4, 5 (1 byte), and the lowest term for it, or for rule
+ *                 5 the lowest leaf number (4 bytes); 0 and 0 if it is not named.
  * After a refusal bytes 2 to 52 are 0. The rules, 1 to 4 each on one statement from the first
  * submission and one from the second, and the row's term:
  *   1  HIRELOG_RULE_TWO_VOTES: two different votes of one term, for two candidates, or for one, but
@@ -172,9 +172,11 @@ struct hirelog_lms_answer hirelog_lms_check(const uint8_t *key, size_t key_len,
  *   5  HIRELOG_RULE_ONE_LEAF: two signatures of the replica with one leaf number and different
  *      messages (statements, compared as bytes), both in the first, both in the second or one in
  *      each; the row has the lowest such leaf number in place of the term.
- * Rule 5 comes last: a row has it only where the replica broke no other. It needs no fork, and is
- * the same with the submissions exchanged. 0 is a leaf number too, so that a row of 5 and 0 is that
- * of a replica which is named: its rule and bytes 6 to 7 tell, not the term.
+ * The order 2, 1, 3, 4, 5 (document 02, W6) decides the row alone: not who is named. A replica may
+ * have broken rules that come later in it too, which its row does not tell. Rule 5 comes last: a row
+ * has it only where the replica broke no other. It needs no fork, and is the same with the
+ * submissions exchanged. 0 is a leaf number too, so that a row of 5 and 0 is that of a replica which
+ * is named: its rule and bytes 6 to 7 tell, not the term.
  *
  * The caller sees to it that
  *   - roster points to roster_len readable bytes, first to first_len, second to second_len, and
