@@ -1,7 +1,8 @@
 //! A safe wrapper of libhirelog.a: its services over slices, with plain values as answers.
 //!
 //! `include/hirelog.h` has each service's rules, and document 01 what they mean; document 02 for a
-//! district's run (W1), for the assembling of a submission (W3) and for leaves (W5).
+//! district's run (W1), for the assembling of a submission (W3), for leaves (W5) and for the order in
+//! which a charge is chosen (W6).
 
 mod assemble;
 mod district;

@@ -91,7 +91,8 @@ impl fmt::Display for Refused {
 
 impl std::error::Error for Refused {}
 
-/// The lowest rule that a replica broke, and the lowest term for it; for rule 5 the lowest leaf number.
+/// Of the rules that a replica broke the first in the order 2, 1, 3, 4, 5 (`rules::ORDER`), and the
+/// lowest term for it; for rule 5 the lowest leaf number. It may have broken later ones too.
 #[derive(Clone, Copy, Debug, PartialEq, Eq)]
 pub struct Charge {
     pub rule: u8,

@@ -42,7 +42,15 @@ fn the_sample() {
 /// from the end, twice, and among items that are passed over.
 #[test]
 fn taken_apart() {
-    for name in ["empty", "one_leader", "stale_leader", "two_requests", "one_leaf", "large"] {
+    for name in [
+        "empty",
+        "one_leader",
+        "stale_leader",
+        "two_requests",
+        "votes_and_stamps",
+        "one_leaf",
+        "large",
+    ] {
         let [roster, first, second] = ["roster", "first", "second"].map(|file| sample(name, file));
         let other = if name == "large" { "one_leader" } else { "large" };
         let strangers = Apart::of(&sample(other, "roster"), &sample(other, "first")).items;

@@ -27,7 +27,15 @@ fn lines(roster: &[u8], first: &[u8], second: &[u8]) -> String {
 /// Every sample gives its lines and its report.
 #[test]
 fn samples() {
-    for name in ["empty", "one_leader", "stale_leader", "two_requests", "one_leaf", "large"] {
+    for name in [
+        "empty",
+        "one_leader",
+        "stale_leader",
+        "two_requests",
+        "votes_and_stamps",
+        "one_leaf",
+        "large",
+    ] {
         let [roster, first, second] = ["roster", "first", "second"].map(|file| sample(name, file));
         let expected = String::from_utf8(sample(name, "expected")).expect("lines");
         assert_eq!(lines(&roster, &first, &second), expected, "{name}");

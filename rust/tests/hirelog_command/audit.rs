@@ -59,7 +59,8 @@ fn rules() {
     expect(&exchanged, "refusal 0 in 0\nfork 1\nboard 2 rule 4 term 2\n", 1);
     let told = |files: &[PathBuf; 3]| with_options("audit", &["--explain"], files).unfolded();
     let one =
-        "Board 2 cast two different votes in term 2: for two candidates, or for one candidate";
+        "What \"board 2 rule 1 term 2\" says: Board 2 cast two different votes in term 2: for \
+        two candidates, or for one candidate";
     assert!(told(&sample("two_requests")).contains(one));
     let two = "Board 1 stamped two logs as leader of term 1";
     assert!(told(&sample("one_leader")).contains(two));
@@ -68,6 +69,30 @@ fn rules() {
     let four = "receipt for a record, which the second submission has, and later, in term 2,";
     assert!(told(&exchanged).contains(four));
     assert!(told(&sample("empty")).contains("No board is named"));
+}
+
+/// A board that broke rules 1 and 2 has rule 2 and its term in its line, also with the submissions
+/// exchanged, and --explain says that it may have broken rule 1 too. A board beside it that broke
+/// rule 1 has that rule, and is said not to have broken rule 2.
+#[test]
+fn stamps_before_votes() {
+    let (stamped, voted) = ("board 1 rule 2 term 2\n", "board 2 rule 1 term 2\n");
+    let order =
+        "Of the rules that a board broke its line has the first in the order 2, 1, 3, 4, 5. \
+        In these submissions board";
+    let one = format!("{order} 1 may have broken rule 1, 3, 4 or 5 too.\n");
+    let two = format!("{order} 2 did not break rule 2, and may have broken rule 3, 4 or 5 too.\n");
+    for (name, voter) in [("votes_and_stamps", ""), ("two_requests", voted)] {
+        let [roster, first, second] = sample(name);
+        let [r, f, s] = [&roster, &first, &second];
+        for files in [[r, f, s], [r, s, f]].map(|files| files.map(PathBuf::clone)) {
+            expect(&files, &format!("refusal 0 in 0\nfork 1\n{stamped}{voter}"), 1);
+            let told = with_options("audit", &["--explain"], &files).unfolded();
+            assert!(told.contains("Board 1 stamped two logs as leader of term 2,"), "{told}");
+            assert!(told.contains(&one), "{told}");
+            assert_eq!(told.contains(&two), !voter.is_empty(), "{told}");
+        }
+    }
 }
 
 /// Rule 5, whose line has a leaf's number and needs no fork: the same line with the submissions
@@ -84,6 +109,7 @@ fn one_leaf() {
             "\nWhat \"board 2 rule 5 term 7\" says: Board 2 signed two different messages with leaf 7 \
              of its key, which is for one",
             "The number in the line is this leaf's, not a term's.",
+            "In these submissions board 2 did not break rule 2, 1, 3 or 4.\n",
             "\nWhat to do: Have board 2 taken out of use",
             "Trust no signature under its key any more: it needs a new one.",
         ] {

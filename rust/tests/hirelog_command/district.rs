@@ -91,7 +91,7 @@ fn the_samples_lines() {
     assert!(audit.status == 1 && !audit.out.contains("fork 0\n"), "{line}: {audit:?}");
 }
 
-/// The six pairs that are samples are runs of two.
+/// The seven pairs that are samples are runs of two.
 #[test]
 fn pairs() {
     for name in SAMPLES {

@@ -105,8 +105,15 @@ fn repository(path: &str) -> PathBuf {
     Path::new(env!("CARGO_MANIFEST_DIR")).parent().expect("the repository").join(path)
 }
 
-const SAMPLES: [&str; 6] =
-    ["empty", "one_leader", "stale_leader", "two_requests", "one_leaf", "large"];
+const SAMPLES: [&str; 7] = [
+    "empty",
+    "one_leader",
+    "stale_leader",
+    "two_requests",
+    "votes_and_stamps",
+    "one_leaf",
+    "large",
+];
 
 /// The roster, the first and the second submission of a sample.
 fn sample(name: &str) -> [PathBuf; 3] {

@@ -22,10 +22,11 @@ document 01's program:
                          else 0
   fork I                 the first index at which both submissions committed
                          different records, 0 if there is none
-  board K rule R term T  for each board named: the lowest rule that it broke,
-                         and the lowest term for that rule; with rule 5 T is
-                         no term, but the lowest leaf number of the board's key
-                         that it used for two messages
+  board K rule R term T  for each board named: of the rules that it broke the
+                         first in the order 2, 1, 3, 4, 5, and the lowest term
+                         for that rule; with rule 5 T is no term, but the
+                         lowest leaf number of the board's key that it used for
+                         two messages
 
 Which submission is named first matters for rules 3 and 4 alone, which are one
 rule with the submissions exchanged; and where both would be refused, for then
@@ -75,11 +76,11 @@ fn accepted(files: &[Input; 3], found: &Findings) -> Answer {
     let mut remarks = vec![number_remark(&lines[0], 0), fork_remark(&lines[1], found.fork, named)];
     for (replica, charge) in found.named() {
         let line = format!("board {replica} rule {} term {}", charge.rule, charge.term);
-        remarks.push(Remark {
-            line: line.clone(),
-            meaning: charge.sentence(replica),
-            advice: charge.advice(replica),
-        });
+        let mut meaning = charge.sentence(replica);
+        if let Some(others) = charge.others(replica) {
+            meaning += &format!(" {others}");
+        }
+        remarks.push(Remark { line: line.clone(), meaning, advice: charge.advice(replica) });
         lines.push(line);
     }
     Answer {
