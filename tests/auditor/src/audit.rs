@@ -1,5 +1,5 @@
 //! Document 01, The report: the fork, the charges by rules 1 to 5, and the report's bytes. Rule 1
-//! is that of document 02, W4, and rule 5 that of W5.
+//! is that of document 02, W4, rule 5 that of W5, and the order for choosing a row that of W6.
 
 use crate::bytes::{u16_at, u32_at};
 use crate::numbers::{
@@ -13,12 +13,24 @@ use crate::verdicts::Verdicts;
 /// Bytes of a report.
 pub const REPORT_SIZE: usize = 53;
 
+/// Document 02, W6: the rules in the order for choosing a row. They keep their numbers.
+const ROW_ORDER: [u8; 5] = [TWO_STAMPS, TWO_VOTES, STALE_VOTE, STALE_VOTE_EXCHANGED, ONE_LEAF];
+
 /// What a replica's row holds: the rule it broke and the term.
-#[derive(Clone, Copy, Debug, PartialEq, Eq, PartialOrd, Ord)]
+#[derive(Clone, Copy, Debug, PartialEq)]
 pub struct Charge {
     pub rule: u8,
     /// For rule 5 a leaf number stands in its place.
     pub term: u32,
+}
+
+impl Charge {
+    /// By which the first of a replica's charges is chosen: the place of its rule in that order,
+    /// then its term, or leaf number.
+    fn rank(&self) -> (usize, u32) {
+        let place = ROW_ORDER.iter().position(|rule| *rule == self.rule);
+        (place.expect("a rule of the order"), self.term)
+    }
 }
 
 /// What an audit finds.
@@ -112,7 +124,8 @@ pub fn findings(roster: &[u8], first: &[u8], second: &[u8], verdicts: &mut Verdi
 
 /// What two accepted submissions show.
 pub fn compare(first: &Submission, second: &Submission) -> Findings {
-    Findings { number: ACCEPTED, place: 0, fork: fork(first, second), rows: rows(first, second) }
+    let rows = chosen(&charges(first, second));
+    Findings { number: ACCEPTED, place: 0, fork: fork(first, second), rows }
 }
 
 /// The lowest index, committed in both, whose records differ; 0 if there is none.
@@ -126,8 +139,9 @@ fn fork(first: &Submission, second: &Submission) -> u32 {
         .unwrap_or(0)
 }
 
-/// The lowest charge of each replica: the lowest rule, and for it the lowest term, or leaf number.
-fn rows(first: &Submission, second: &Submission) -> [Option<Charge>; MOST] {
+/// Every charge that two accepted submissions give, each with its replica; some of them stand there
+/// several times.
+pub fn charges(first: &Submission, second: &Submission) -> Vec<(u16, Charge)> {
     let mut charges = Vec::new();
     for (a, run_a) in first.leaders.iter().zip(first.runs()) {
         for (b, run_b) in second.leaders.iter().zip(second.runs()) {
@@ -138,11 +152,16 @@ fn rows(first: &Submission, second: &Submission) -> [Option<Charge>; MOST] {
     charges.extend(receipt_then_vote(STALE_VOTE, first, second));
     charges.extend(receipt_then_vote(STALE_VOTE_EXCHANGED, second, first));
     charges.extend(rule_5(first.uses.iter().chain(&second.uses).collect()));
+    charges
+}
 
+/// The row of each replica: of its charges those of the first rule in the order, and of these the
+/// one with the lowest term, or leaf number.
+fn chosen(charges: &[(u16, Charge)]) -> [Option<Charge>; MOST] {
     let mut rows = [None; MOST];
-    for (replica, charge) in charges {
-        let row = &mut rows[replica as usize - 1];
-        *row = Some(row.map_or(charge, |other: Charge| other.min(charge)));
+    for (k, row) in (1..).zip(&mut rows) {
+        let own = charges.iter().filter(|(replica, _)| *replica == k);
+        *row = own.map(|(_, charge)| *charge).min_by_key(Charge::rank);
     }
     rows
 }
@@ -271,7 +290,7 @@ mod tests {
         let by = |replica, leaf, message: &[u8]| Use { replica, leaf, message: message.to_vec() };
         let charged = |uses: &[Use]| {
             let mut charges = rule_5(uses.iter().collect());
-            charges.sort();
+            charges.sort_by_key(|(replica, charge)| (*replica, charge.term));
             charges
         };
         let right = [by(1, 0, b"a"), by(1, 1, b"b"), by(2, 0, b"b"), by(1, 0, b"a")];
@@ -283,6 +302,50 @@ mod tests {
         assert_eq!(charged(&apart), vec![(2, charge(7)); 2], "with either of the two");
         let twice = [by(1, 9, b"a"), by(1, 9, b"b"), by(1, 8, b"c"), by(1, 8, b"d")];
         assert_eq!(charged(&twice), vec![(1, charge(8)), (1, charge(9))]);
+    }
+
+    /// Document 02, W6: of two rules the one that comes first of 2, 1, 3, 4 and 5, whatever the
+    /// terms are and whichever is found first; of one rule the lowest term.
+    #[test]
+    fn row_order() {
+        let order = [2, 1, 3, 4, 5];
+        for (i, rule) in order.into_iter().enumerate() {
+            for (own, other) in [(7, 7), (7, 6), (7, 8), (u32::MAX, 0), (0, u32::MAX)] {
+                let own = Charge { rule, term: own };
+                for later in &order[i + 1..] {
+                    let after = Charge { rule: *later, term: other };
+                    for two in [[(3, own), (3, after)], [(3, after), (3, own)]] {
+                        let mut right = [None; MOST];
+                        right[2] = Some(own);
+                        assert_eq!(chosen(&two), right, "{two:?}");
+                    }
+                }
+                let again = Charge { rule, term: other };
+                let lowest = Some(Charge { rule, term: own.term.min(other) });
+                assert_eq!(chosen(&[(9, own), (9, again)])[8], lowest, "rule {rule}");
+            }
+        }
+        let of_all = order.map(|rule| (1, Charge { rule, term: 10 - u32::from(rule) }));
+        assert_eq!(chosen(&of_all)[0], Some(Charge { rule: 2, term: 8 }));
+        assert_eq!(chosen(&[]), [None; MOST]);
+    }
+
+    /// Each replica's row is chosen from its own charges.
+    #[test]
+    fn rows_by_replica() {
+        let charge = |rule, term| Charge { rule, term };
+        let charges = [
+            (2, charge(1, 4)),
+            (1, charge(1, 1)),
+            (9, charge(2, 5)),
+            (1, charge(2, 3)),
+            (2, charge(1, 2)),
+        ];
+        let mut right = [None; MOST];
+        right[0] = Some(charge(2, 3));
+        right[1] = Some(charge(1, 2));
+        right[8] = Some(charge(2, 5));
+        assert_eq!(chosen(&charges), right);
     }
 
     /// Document 01, Bench figures: against (3, 7), (3, 6) is staler, (3, 7) and (4, 1) are not.

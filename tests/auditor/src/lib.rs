@@ -6,6 +6,7 @@
 //!   its report and the lines that the program prints;
 //! - in `audit`, and in the board rules of `district`, document 02's W4: votes of one term are for
 //!   one request, or are charged; and W5: one leaf, one message, or a charge;
+//! - in `audit` besides W6: the order for choosing a row is 2, 1, 3, 4, 5;
 //! - `depot`, from document 02, W1, besides: the run over a list of submissions, with its cases;
 //! - `assemble`, from document 02, W3: a submission from a log and a bag of items, with its cases.
 //!
