@@ -143,7 +143,7 @@ pub fn more_pairs(cluster: &Rc<Cluster>, keys: &Keys) -> Vec<Pair> {
 /// n = 3. Replicas 1 and 2 elect replica 1 in term 2 twice: on the record that replica 3 led in
 /// term 1, and on an empty log. Each time they commit the record that follows. Replica 2 voted for
 /// one candidate only, but for two requests; replica 1 asked for them, voted for both, and stamped
-/// two logs, which is the higher rule. Replica 3 did no wrong.
+/// two logs, which comes first (document 02, W6). Replica 3 did no wrong.
 fn two_requests(signer: &Signer) -> (Draft, Draft) {
     let first = log(&[(1, "a"), (2, "b")]);
     let first = signer.submission(&first, &[(3, 0b110), (1, 0b011)], Some((2, 0b011)));
@@ -236,7 +236,7 @@ mod tests {
             "refusal 0 in 0\nfork 0\n",
             "refusal 0 in 0\nfork 1\nboard 1 rule 2 term 1\n",
             "refusal 0 in 0\nfork 1\nboard 2 rule 3 term 2\n",
-            "refusal 0 in 0\nfork 1\nboard 1 rule 1 term 2\nboard 2 rule 1 term 2\n",
+            "refusal 0 in 0\nfork 1\nboard 1 rule 2 term 2\nboard 2 rule 1 term 2\n",
             "refusal 0 in 0\nfork 0\nboard 2 rule 5 term 7\n",
             "refusal 0 in 0\nfork 60\nboard 1 rule 2 term 4\nboard 5 rule 3 term 7\n\
                 board 6 rule 3 term 7\nboard 7 rule 3 term 7\n",

@@ -1,5 +1,7 @@
 //! Rule 1 as document 02, W4, has it: votes of one term for two requests, be they of one candidate.
-//! Where the ends of the logs differ in term or index, so do their pointers.
+//! Where the ends of the logs differ in term or index, so do their pointers. One candidate of two
+//! requests has stamped two logs in that term, and its row has rule 2, which comes before rule 1
+//! (W6).
 
 use super::{Cases, Expect};
 use crate::build::{log, Draft};
@@ -20,6 +22,18 @@ pub struct Field {
     pub candidates: bool,
     /// Whether the leader of term 1 has stamped two logs.
     pub stamps: bool,
+}
+
+impl Field {
+    /// The rule in the row of a replica that signed both requests, and its term: of one candidate
+    /// of both, and of a leader of term 1 that stamped two logs, rule 2.
+    fn row(&self, replica: u16, roles: &Roles) -> String {
+        match replica {
+            1 if !self.candidates => "board 1 rule 2 term 4\n".into(),
+            k if k == roles.leader && self.stamps => format!("board {k} rule 2 term 1\n"),
+            k => format!("board {k} rule 1 term 4\n"),
+        }
+    }
 }
 
 /// Each of the four. The ends of the logs are (1, 1) in both; (1, 1) and (2, 1); (1, 1) and (1, 2);
@@ -141,7 +155,7 @@ impl Cases<'_> {
         let some = roles.quorums.map(mask_of);
         let mut rest = "fork 0\n".to_string();
         for k in roles.both {
-            rest += &format!("board {k} rule 1 term 4\n");
+            rest += &field.row(*k, roles);
         }
         if *stamps {
             rest += &format!("board {} rule 2 term 1\n", roles.leader);
@@ -149,8 +163,8 @@ impl Cases<'_> {
         let two = two_requests(&signer.clone(), field, roles, some, None);
         let name = format!("two requests of {n}, another {name}");
         self.both_orders(&name, &signer, &two, &rest);
-        // Rule 1 is lower than rule 2, for the candidate and for the leader of term 1.
-        let all = (1..=n).map(|k| format!("board {k} rule 1 term 4\n")).collect::<String>();
+        // All break rule 1; for the candidate and the leader of term 1 rule 2 comes before it.
+        let all = (1..=n).map(|k| field.row(k as u16, roles)).collect::<String>();
         let everybody = [signer.all(); 2];
         let two = two_requests(&signer.clone(), field, roles, everybody, None);
         self.both_orders(&format!("{name}, all sign"), &signer, &two, &format!("fork 0\n{all}"));
@@ -205,30 +219,33 @@ impl Cases<'_> {
         let made = |signer: &Signer, records: &[(u32, &str)], leaders: &[(u16, u16)], commit| {
             signer.submission(&log(records), leaders, commit)
         };
-        // The logs part at index 1, and so do the ends that terms 4 and 6 are elected on. Replica 3
-        // signed both of term 6 only; as leader of term 1 it broke rule 2 in a lower term.
+        // The logs part at index 1, and so do the ends that terms 4 and 6 are elected on. Replica 1
+        // stamped both logs in both of these terms. Replica 3 signed both requests of term 6 only;
+        // as leader of term 1 it broke rule 2, which is what its row has.
         let one = three.clone();
         let leaders = [(3, 0b110), (1, 0b011), (1, 0b101)];
         let two = ["a", "b"]
             .map(|payload| made(&one, &[(1, payload), (4, "y"), (6, "z")], &leaders, None));
-        let rest = "fork 0\nboard 1 rule 1 term 4\nboard 2 rule 1 term 4\nboard 3 rule 1 term 6\n";
+        let rest = "fork 0\nboard 1 rule 2 term 4\nboard 2 rule 1 term 4\nboard 3 rule 2 term 1\n";
         self.both_orders("one candidate's requests in two terms", &three, &two, rest);
-        // One candidate's two requests in one of the terms, two candidates in the other.
-        for (name, [in_4, in_6]) in [
-            ("requests, then candidates", [[1, 1], [1, 2]]),
-            ("candidates, then requests", [[1, 2], [1, 1]]),
+        // One candidate's two requests in one of the terms, two candidates in the other: it stamped
+        // both logs in the one, be there a lower term in which it voted twice.
+        for (name, [in_4, in_6], stamped) in [
+            ("requests, then candidates", [[1, 1], [1, 2]], 4),
+            ("candidates, then requests", [[1, 2], [1, 1]], 6),
         ] {
             let one = three.clone();
             let two = [0, 1].map(|i| {
                 let records = [(1, ["a", "b"][i]), (4, "y"), (6, "z")];
                 made(&one, &records, &[(3, 0b110), (in_4[i], 0b011), (in_6[i], 0b011)], None)
             });
-            let rest =
-                "fork 0\nboard 1 rule 1 term 4\nboard 2 rule 1 term 4\nboard 3 rule 2 term 1\n";
-            self.both_orders(name, &three, &two, rest);
+            let others = "board 2 rule 1 term 4\nboard 3 rule 2 term 1\n";
+            let rest = format!("fork 0\nboard 1 rule 2 term {stamped}\n{others}");
+            self.both_orders(name, &three, &two, &rest);
         }
         // Replica 2's receipt (1, 1), and its vote in term 2 on (0, 0), break rule 3, or 4 if the
-        // submissions are exchanged; rule 1 in term 5 is lower, for whoever signed both.
+        // submissions are exchanged; rule 1 in term 5 comes before it, if it signed both. Replica 1
+        // signed both and stamped both.
         for (signers, rule_of_2) in [(0b011, None), (0b101, Some([3, 4]))] {
             let one = three.clone();
             let records = [(1, "a"), (5, "z")];
@@ -236,22 +253,22 @@ impl Cases<'_> {
             let records = [(2, "x"), (5, "z")];
             let second = made(&one, &records, &[(3, 0b110), (1, signers)], None);
             let rest = |order: usize| match rule_of_2 {
-                None => "fork 0\nboard 1 rule 1 term 5\nboard 2 rule 1 term 5\n".to_string(),
+                None => "fork 0\nboard 1 rule 2 term 5\nboard 2 rule 1 term 5\n".to_string(),
                 Some(rules) => {
                     let rule = rules[order];
-                    format!("fork 0\nboard 1 rule 1 term 5\nboard 2 rule {rule} term 2\n")
+                    format!("fork 0\nboard 1 rule 2 term 5\nboard 2 rule {rule} term 2\n")
                 }
             };
             let name = format!("two requests after a stale vote, signers {signers:03b}");
             self.lines(&name, &three, &first, &second, &rest(0));
             self.lines(&format!("{name}, exchanged"), &three, &second, &first, &rest(1));
         }
-        // On an empty log and on one record, in the highest term.
+        // On an empty log and on one record, in the highest term; replica 2 is the candidate.
         let one = three.clone();
         let most = u32::MAX;
         let first = made(&one, &[(most, "z")], &[(2, 0b111)], None);
         let second = made(&one, &[(most - 1, "a"), (most, "z")], &[(2, 0b110), (2, 0b011)], None);
-        let rest = format!("fork 0\nboard 1 rule 1 term {most}\nboard 2 rule 1 term {most}\n");
+        let rest = format!("fork 0\nboard 1 rule 1 term {most}\nboard 2 rule 2 term {most}\n");
         self.both_orders("two requests, the highest term", &three, &[first, second], &rest);
     }
 
@@ -272,7 +289,7 @@ impl Cases<'_> {
             let signer = three.clone();
             let two = records.map(|log| signer.submission(&log, &[(3, 0b110), (1, 0b011)], None));
             let rest =
-                "fork 0\nboard 1 rule 1 term 4\nboard 2 rule 1 term 4\nboard 3 rule 2 term 1\n";
+                "fork 0\nboard 1 rule 2 term 4\nboard 2 rule 1 term 4\nboard 3 rule 2 term 1\n";
             let name = format!("two requests, the same word {word} of the pointers");
             self.both_orders(&name, &three, &two, rest);
         }

@@ -1,4 +1,5 @@
-//! Several rules, terms and replicas at once: the lowest rule, and for it the lowest term.
+//! Several rules, terms and replicas at once: the first rule in the order 2, 1, 3, 4, 5 (document 02,
+//! W6), and for it the lowest term.
 
 use super::Cases;
 use crate::build::{log, Draft};
@@ -57,45 +58,47 @@ fn rule_1_twice(signer: &Signer) -> Made {
     (first, second, "fork 0\nboard 1 rule 1 term 3\nboard 2 rule 1 term 3\n")
 }
 
-/// Replica 1 stamps two logs in term 5 and votes twice in term 9.
+/// Replica 1 stamps two logs in term 5 and votes twice in term 9. Stamps come before votes, and here
+/// their term is the lower one too.
 fn rule_1_later(signer: &Signer) -> Made {
     let first = log(&[(5, "a"), (9, "b")]);
     let second = log(&[(5, "x"), (9, "b")]);
     let first = signer.submission(&first, &[(1, 0b011), (2, 0b011)], None);
     let second = signer.submission(&second, &[(1, 0b101), (3, 0b101)], None);
-    (first, second, "fork 0\nboard 1 rule 1 term 9\n")
+    (first, second, "fork 0\nboard 1 rule 2 term 5\n")
 }
 
 /// The logs part at index 2, so term 1's stamps are right and those of terms 2 and 3 are not. Term
 /// 2 has one request, elected on (1, 1) of both; term 3 has two, on the (2, 2) of the one and of
-/// the other, and replica 1 signed both. Rule 1 is lower than rule 2, though its term is not; and
-/// whoever breaks rule 2 in two terms has voted for two requests in the later one.
+/// the other, and replica 1 signed both. Rule 2 comes before rule 1, and of its terms the lower one
+/// is given; whoever breaks rule 2 in two terms has voted for two requests in the later one.
 fn rule_2_twice(signer: &Signer) -> Made {
     let first = log(&[(1, "a"), (2, "b"), (3, "c")]);
     let second = log(&[(1, "a"), (2, "x"), (3, "c")]);
     let first = signer.submission(&first, &[(1, 0b011); 3], None);
     let second = signer.submission(&second, &[(1, 0b101); 3], None);
-    (first, second, "fork 0\nboard 1 rule 1 term 3\n")
+    (first, second, "fork 0\nboard 1 rule 2 term 2\n")
 }
 
 /// The same payloads, but record 1 has another term: replica 1, elected in term 4 on (1, 1) and on
-/// (2, 1), voted for two requests of its own and stamped two logs.
+/// (2, 1), voted for two requests of its own and stamped two logs, which comes first.
 fn rules_1_and_2_by_term(signer: &Signer) -> Made {
     let (first, second) = (log(&[(1, "a"), (4, "b")]), log(&[(2, "a"), (4, "b")]));
     let first = signer.submission(&first, &[(2, 0b110), (1, 0b011)], Some((1, 0b110)));
     let second = signer.submission(&second, &[(3, 0b101), (1, 0b101)], Some((1, 0b101)));
     // Replica 3's receipt (1, 1) and its vote in term 2 on (0, 0) break rule 3; replica 1's receipt
-    // (2, 1) and its vote in term 4 on (1, 1) would break rule 4, but rules 1 and 2 are lower.
-    (first, second, "fork 1\nboard 1 rule 1 term 4\nboard 3 rule 3 term 2\n")
+    // (2, 1) and its vote in term 4 on (1, 1) break rule 4, but rules 2 and 1 come before it.
+    (first, second, "fork 1\nboard 1 rule 2 term 4\nboard 3 rule 3 term 2\n")
 }
 
 /// One candidate of one term, elected by the same two on (1, 1) and on an empty log: two requests,
-/// and both who signed them broke rule 1. The candidate's stamps break rule 2 too, which is higher.
+/// and both who signed them broke rule 1. The candidate's stamps break rule 2 too, and that is what
+/// its row has.
 fn rules_1_and_2_on_two_ends(signer: &Signer) -> Made {
     let (first, second) = (log(&[(1, "a"), (3, "b")]), log(&[(3, "b")]));
     let first = signer.submission(&first, &[(2, 0b110), (1, 0b011)], None);
     let second = signer.submission(&second, &[(1, 0b011)], None);
-    (first, second, "fork 0\nboard 1 rule 1 term 3\nboard 2 rule 1 term 3\n")
+    (first, second, "fork 0\nboard 1 rule 2 term 3\nboard 2 rule 1 term 3\n")
 }
 
 /// After a receipt (2, 3), the vote in term 3 on (1, 1) breaks the rule; those in terms 4 and 5 on
@@ -139,6 +142,7 @@ fn early_commit(signer: &Signer) -> Made {
 }
 
 /// Replica 1 stamps two logs, 3 and 4 vote twice, 5 to 9 vote for a staler log; 2 does no wrong.
+/// Nobody breaks both rule 1 and rule 2.
 fn many(signer: &Signer) -> Made {
     let first = log(&[(1, "a"), (2, "b"), (2, "c")]);
     let second = log(&[(1, "x"), (2, "y"), (4, "z")]);

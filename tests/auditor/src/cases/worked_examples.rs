@@ -104,12 +104,14 @@ impl Cases<'_> {
         // The logs part only after the lower stamp; before it; and in a term's number alone.
         let long = log(&[(1, "a"), (1, "b"), (2, "c")]);
         let other = log(&[(1, "a"), (2, "b"), (2, "c")]);
-        // Replicas 1 and 2 elect the leader of term 2 on (1, 2) and on (1, 1).
+        // Replicas 1 and 2 elect the leader of term 2 on (1, 2) and on (1, 1); replica 1, which is
+        // that leader, stamps both logs in term 2 besides, and stamps come before votes (document
+        // 02, W6).
         let elected = signer.clone();
         let leaders = [(1, 0b011), (1, 0b011)];
         let a = elected.submission(&long, &leaders, None);
         let b = elected.submission(&other, &leaders, None);
-        let rest = "fork 0\nboard 1 rule 1 term 2\nboard 2 rule 1 term 2\n";
+        let rest = "fork 0\nboard 1 rule 2 term 2\nboard 2 rule 1 term 2\n";
         self.lines("parted after the lower stamp of term 1", &signer, &a, &b, rest);
         // Others lead term 2, and of its voters only replica 3 is in both: nothing is left for
         // which replica 1, who stamped in term 1, could be charged.

@@ -2,13 +2,14 @@
 //! for every fork, and everybody who is shown to have used a leaf twice.
 
 use super::*;
-use crate::audit::{compare, findings, Charge, Findings};
+use crate::audit::{charges, compare, findings, Charge, Findings};
 use crate::cluster::Keys;
 use crate::verdicts::Verdicts;
 use std::collections::{BTreeMap, BTreeSet};
 
-/// How many pairs and forks there were, how many charges by each rule, how many of those by rule 1
-/// are for two requests of one candidate, and how many replicas used a leaf twice.
+/// How many pairs and forks there were, how many rows have each rule, how many charges of rule 1 are
+/// for two requests of one candidate, whose own row has rule 2, and how many replicas used a leaf
+/// twice.
 #[derive(Debug, Default)]
 struct Tally {
     pairs: usize,
@@ -51,6 +52,9 @@ impl Tally {
         self.forks += usize::from(found.fork != 0);
         for charge in found.rows.iter().flatten() {
             self.rules[charge.rule as usize] += 1;
+        }
+        let [first, second] = [two.0, two.1].map(|claim| district.submission(claim));
+        for (_, charge) in charges(&first, &second) {
             let led = |claim: &Claim| {
                 let leaders = claim.unsigned().leaders;
                 leaders.into_iter().map(|l| l.vote).find(|vote| vote.term == charge.term)
@@ -118,7 +122,8 @@ fn many_districts() {
 
 /// Replica 1 asks twice in term 4, with the log that replica 3 led in term 1 and with an empty one.
 /// Replica 2, whose log is empty, may vote for either, and not for both: it is named if it does,
-/// and both votes are shown. Replica 3 may vote for the longer log only.
+/// and both votes are shown. Replica 3 may vote for the longer log only. Replica 1's row has its two
+/// stamps, which come before its two votes.
 #[test]
 fn asked_twice() {
     let record = |term, payload: &[u8]| Record { term, payload: sha256(&[payload]) };
@@ -141,14 +146,14 @@ fn asked_twice() {
     assert!(three[1].vote(0, &second, 3) && !three[1].vote(1, &first, 3), "a second request");
     assert!(three[1].vote(0, &second, 3), "the same request");
     let found = |a: &Claim, b: &Claim| compare(&a.unsigned(), &b.unsigned());
-    let charged = Some(Charge { rule: 1, term: 4 });
+    let [asked, voted] = [2, 1].map(|rule| Some(Charge { rule, term: 4 }));
     for (a, b) in [(&signed_by(0b101), &other), (&other, &signed_by(0b101))] {
-        assert_eq!(found(a, b).rows[..3], [charged, None, None], "replicas 2 and 3 did no wrong");
+        assert_eq!(found(a, b).rows[..3], [asked, None, None], "replicas 2 and 3 did no wrong");
     }
     three[1].cheats.votes_twice = true;
     assert!(three[1].vote(1, &first, 3));
     for (a, b) in [(&signed_by(0b111), &other), (&other, &signed_by(0b111))] {
-        assert_eq!(found(a, b).rows[..3], [charged, charged, None]);
+        assert_eq!(found(a, b).rows[..3], [asked, voted, None]);
     }
     // As long as one of its votes is shown only, nobody knows.
     assert_eq!(found(&signed_by(0b111), &signed_by(0b101)).named(), 0);
