@@ -1,5 +1,5 @@
-//! Several rules, terms and replicas at once: the first rule in the order 2, 1, 3, 4, 5 (document 02,
-//! W6), and for it the lowest term.
+//! Several rules, terms and replicas at once: the first rule in the order 2, 1, 3, 4, 5 of document
+//! 02, W6, and for it the lowest term.
 
 use super::Cases;
 use crate::build::{log, Draft};
@@ -58,8 +58,8 @@ fn rule_1_twice(signer: &Signer) -> Made {
     (first, second, "fork 0\nboard 1 rule 1 term 3\nboard 2 rule 1 term 3\n")
 }
 
-/// Replica 1 stamps two logs in term 5 and votes twice in term 9. Stamps come before votes, and here
-/// their term is the lower one too.
+/// Replica 1 stamps two logs in term 5 and votes twice in term 9. Stamps come before votes, and
+/// here their term is the lower one too.
 fn rule_1_later(signer: &Signer) -> Made {
     let first = log(&[(5, "a"), (9, "b")]);
     let second = log(&[(5, "x"), (9, "b")]);
