@@ -12,6 +12,7 @@ mod leaders;
 pub mod leaves;
 mod order;
 mod pairs;
+pub mod precedence;
 mod reports;
 pub mod requests;
 mod rosters;
@@ -141,6 +142,7 @@ pub fn run(seed: u64, size: Size, take: &mut dyn FnMut(&Case)) {
     cases.every_length();
     cases.every_byte();
     cases.leaves();
+    cases.precedence();
 }
 
 /// Where cases come from and where they go.

@@ -40,10 +40,15 @@ pub fn kept(signer: &Signer) -> [Draft; 2] {
 /// The same two, with these signatures by chosen leaves.
 pub fn signed_by(signer: &Signer, uses: &[By]) -> [Draft; 2] {
     let mut two = kept(signer);
+    sign_by(signer, &mut two, uses);
+    two
+}
+
+/// Puts signatures by chosen leaves into two submissions.
+pub fn sign_by(signer: &Signer, two: &mut [Draft; 2], uses: &[By]) {
     for (which, replica, place, leaf) in uses {
         places::sign(signer, &mut two[*which], *replica, *place, *leaf);
     }
-    two
 }
 
 impl Cases<'_> {

@@ -9,6 +9,7 @@ mod leaves;
 mod lengths;
 mod order;
 mod places;
+mod precedence;
 pub mod refused;
 mod reports;
 mod requests;
@@ -100,6 +101,7 @@ pub fn run(seed: u64, size: Size, take: &mut dyn FnMut(&Case)) {
     cases.damaged();
     cases.districts();
     cases.leaves();
+    cases.precedence();
 }
 
 /// Where cases come from and where they go.

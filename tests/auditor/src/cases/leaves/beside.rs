@@ -3,7 +3,7 @@
 //! charges.
 
 use super::places::{sign, Place};
-use super::{By, Receipt, Stamp, Vote, FIRST, SECOND};
+use super::{sign_by, By, Receipt, Stamp, Vote, FIRST, SECOND};
 use crate::build::{log, Draft};
 use crate::cases::worked_examples::{one_leader, stale_leader};
 use crate::cases::Cases;
@@ -114,9 +114,7 @@ impl Cases<'_> {
             let signer = self.signer(3, 5);
             let (first, second) = pair(&signer);
             let mut two = [first, second];
-            for (which, replica, place, leaf) in uses {
-                sign(&signer, &mut two[*which], *replica, *place, *leaf);
-            }
+            sign_by(&signer, &mut two, uses);
             let name = format!("leaves: {name}");
             let [a, b] = &two;
             self.lines(&name, &signer, a, b, rest[0]);
