@@ -1,5 +1,7 @@
 //! The cases against this package's own audit alone: each gives what it was made for, and every
-//! number comes up.
+//! number comes up. Document 02's W6 changes the rows that it says, and no others.
+
+pub mod former;
 
 use super::*;
 use crate::audit::{audit, findings};
@@ -7,6 +9,7 @@ use crate::bytes::u32_at;
 use crate::roster::Roster;
 use crate::submission::Submission;
 use crate::verdicts::Verdicts;
+use former::Former;
 use std::collections::HashMap;
 
 /// Why the good signatures of an accepted case are not one leaf for each message of a replica, and
@@ -76,17 +79,21 @@ fn keeps_leaves(case: &Case, replica: u16) -> bool {
 }
 
 /// How often each number came up in a set; among the cases that are drawn each way in which two
-/// requests differ; and how many rows had each rule.
+/// requests differ; how many rows had each rule; and how many are as before W6, and how many not,
+/// of all cases and of those that are drawn.
 struct Counts {
     numbers: [usize; 16],
     requests: [usize; 5],
     rules: [usize; 6],
+    former: Former,
+    drawn: Former,
 }
 
 /// Runs the set.
 fn counts(seed: u64, size: Size) -> Counts {
     let mut requests = [0; 5];
     let mut rules = [0; 6];
+    let (mut former, mut drawn) = (Former::default(), Former::default());
     let mut verdicts = Verdicts::default();
     let mut counts = [0; 16];
     let mut broken = Vec::new();
@@ -105,7 +112,9 @@ fn counts(seed: u64, size: Size) -> Counts {
         let found = findings(case.roster, case.first, case.second, &mut verdicts);
         if number == 0 {
             let two = read(case, &mut verdicts);
+            former.look(two.each_ref(), &found);
             if ["loose", "drawn", "district"].iter().any(|drawn| case.name.starts_with(drawn)) {
+                drawn.look(two.each_ref(), &found);
                 for (count, found) in requests.iter_mut().zip(two_requests(&two)) {
                     *count += usize::from(found);
                 }
@@ -138,25 +147,30 @@ fn counts(seed: u64, size: Size) -> Counts {
     }
     println!("two requests, drawn: {requests:?}");
     println!("rows by rule: {rules:?}");
-    Counts { numbers: counts, requests, rules }
+    println!("rows before W6: {former:?}; of those drawn: {drawn:?}");
+    Counts { numbers: counts, requests, rules, former, drawn }
 }
 
 #[test]
 fn full_set() {
-    let Counts { numbers, requests, rules } = counts(1, Size::Full);
+    let Counts { numbers, requests, rules, former, drawn } = counts(1, Size::Full);
     assert!(numbers.iter().sum::<usize>() >= 5000);
     assert!(numbers.iter().all(|count| *count >= 20));
     assert!(requests.iter().all(|count| *count >= 40));
     assert!(rules[1..].iter().all(|count| *count >= 100));
+    assert!(former.kept >= 1000 && former.changed.iter().all(|count| *count >= 80));
+    assert!(drawn.kept >= 1000 && drawn.changed.iter().all(|count| *count >= 50));
 }
 
 #[test]
 fn small_set() {
-    let Counts { numbers, requests, rules } = counts(2, Size::Small);
+    let Counts { numbers, requests, rules, former, drawn } = counts(2, Size::Small);
     assert!(numbers.iter().sum::<usize>() >= 500);
     assert!(numbers.iter().all(|count| *count >= 1));
     assert!(requests.iter().all(|count| *count >= 3));
     assert!(rules[1..].iter().all(|count| *count >= 20));
+    assert!(former.kept >= 100 && former.changed.iter().all(|count| *count >= 20));
+    assert!(drawn.kept >= 50 && drawn.changed.iter().all(|count| *count >= 4));
 }
 
 /// One leaf for two messages, and two signatures of one message, are noticed; the same signature in

@@ -3,13 +3,14 @@
 
 use super::*;
 use crate::audit::{charges, compare, findings, Charge, Findings};
+use crate::cases::tests::former::Former;
 use crate::cluster::Keys;
 use crate::verdicts::Verdicts;
 use std::collections::{BTreeMap, BTreeSet};
 
-/// How many pairs and forks there were, how many rows have each rule, how many charges of rule 1 are
-/// for two requests of one candidate, whose own row has rule 2, and how many replicas used a leaf
-/// twice.
+/// How many pairs and forks there were, how many rows have each rule, how many charges of rule 1
+/// are for two requests of one candidate, whose own row has rule 2, how many replicas used a leaf
+/// twice, and what document 02's W6 changes.
 #[derive(Debug, Default)]
 struct Tally {
     pairs: usize,
@@ -17,6 +18,7 @@ struct Tally {
     rules: [usize; 6],
     requests: usize,
     reused: usize,
+    former: Former,
 }
 
 /// The replicas whose signatures in two claims have one leaf for two messages, each with the lowest
@@ -54,6 +56,7 @@ impl Tally {
             self.rules[charge.rule as usize] += 1;
         }
         let [first, second] = [two.0, two.1].map(|claim| district.submission(claim));
+        self.former.look([&first, &second], found);
         for (_, charge) in charges(&first, &second) {
             let led = |claim: &Claim| {
                 let leaders = claim.unsigned().leaders;
@@ -117,13 +120,15 @@ fn many_districts() {
         assert!(tally.pairs >= 500 && tally.forks >= 50);
         assert!(tally.rules[1..].iter().all(|count| *count >= 10) && tally.requests >= 5);
         assert!(tally.reused > tally.rules[5], "rule 5 beside others");
+        let Former { kept, changed } = tally.former;
+        assert!(kept >= 100 && changed.iter().sum::<usize>() > 0);
     }
 }
 
 /// Replica 1 asks twice in term 4, with the log that replica 3 led in term 1 and with an empty one.
 /// Replica 2, whose log is empty, may vote for either, and not for both: it is named if it does,
-/// and both votes are shown. Replica 3 may vote for the longer log only. Replica 1's row has its two
-/// stamps, which come before its two votes.
+/// and both votes are shown. Replica 3 may vote for the longer log only. Replica 1's row has its
+/// two stamps, which come before its two votes.
 #[test]
 fn asked_twice() {
     let record = |term, payload: &[u8]| Record { term, payload: sha256(&[payload]) };
