@@ -113,8 +113,8 @@ fn pair(folder: &'static str, cluster: &Cluster, (first, second): (Draft, Draft)
     Pair { folder, roster: cluster.roster(), first: first.bytes(), second: second.bytes() }
 }
 
-/// What stands in the folder samples: document 01's worked pairs, one for document 02's W4 and one
-/// for W5, and one that all but fills the buffers of the program.
+/// What stands in the folder samples: document 01's worked pairs, one each for document 02's W4, W6
+/// and W5, and one that all but fills the buffers of the program.
 pub fn samples(cluster: &Rc<Cluster>, keys: &Keys) -> Vec<Pair> {
     let nine = keys.cluster(9, 5);
     vec![
@@ -122,6 +122,7 @@ pub fn samples(cluster: &Rc<Cluster>, keys: &Keys) -> Vec<Pair> {
         pair("one_leader", cluster, one_leader(&Signer::new(cluster))),
         pair("stale_leader", cluster, stale_leader(&Signer::new(cluster))),
         pair("two_requests", cluster, two_requests(&Signer::new(cluster))),
+        pair("votes_and_stamps", cluster, votes_and_stamps(&Signer::new(cluster))),
         pair("one_leaf", cluster, one_leaf(&Signer::new(cluster))),
         pair("large", &nine, filling(&Signer::new(&nine))),
     ]
@@ -151,8 +152,20 @@ fn two_requests(signer: &Signer) -> (Draft, Draft) {
     (first, second)
 }
 
-/// n = 3. Replicas 1 and 2 elect replica 1 in term 1; it leads one record, and then another, and the
-/// same two give receipts for both. Replica 2 signs its two receipts with leaf 7. Nobody breaks
+/// n = 3. Replica 1 votes in term 1 for replica 2 and for replica 3. In term 2 it is elected on the
+/// record of the one and on that of the other, and stamps two logs, each of which it commits with
+/// the leader before it. Its stamps come before its votes, though the votes of term 1 are in a lower
+/// term (document 02, W6). Replicas 2 and 3 did no wrong.
+fn votes_and_stamps(signer: &Signer) -> (Draft, Draft) {
+    let made = |payloads: [&str; 2], other, signers| {
+        let records = log(&[(1, payloads[0]), (2, payloads[1])]);
+        signer.submission(&records, &[(other, signers), (1, signers)], Some((2, signers)))
+    };
+    (made(["a", "b"], 2, 0b011), made(["c", "d"], 3, 0b101))
+}
+
+/// n = 3. Replicas 1 and 2 elect replica 1 in term 1; it leads one record, and then another, and
+/// the same two give receipts for both. Replica 2 signs its two receipts with leaf 7. Nobody breaks
 /// another rule, and there is no fork.
 pub fn one_leaf(signer: &Signer) -> (Draft, Draft) {
     let records = log(&[(1, "a"), (1, "b")]);
@@ -237,6 +250,7 @@ mod tests {
             "refusal 0 in 0\nfork 1\nboard 1 rule 2 term 1\n",
             "refusal 0 in 0\nfork 1\nboard 2 rule 3 term 2\n",
             "refusal 0 in 0\nfork 1\nboard 1 rule 2 term 2\nboard 2 rule 1 term 2\n",
+            "refusal 0 in 0\nfork 1\nboard 1 rule 2 term 2\n",
             "refusal 0 in 0\nfork 0\nboard 2 rule 5 term 7\n",
             "refusal 0 in 0\nfork 60\nboard 1 rule 2 term 4\nboard 5 rule 3 term 7\n\
                 board 6 rule 3 term 7\nboard 7 rule 3 term 7\n",
