@@ -9,11 +9,12 @@
  * stands at an unreadable page as they do, among guard bytes. Number, report and the bytes after it
  * have to be those of the separately written auditor. The library has no counters of its own, so
  * what leads the fuzzer on is the auditor's branches, and what the audit says: its number and
- * place, and each replica's rule. Of a report these rules of document 01 are checked by themselves
- * besides: the bytes around it stay, a refusal has nothing but number and place, a fork names
- * somebody, a submission audited beside itself breaks no rule but that on leaves (document 02, W5),
- * whoever breaks it there is named beside any other, and exchanging the submissions keeps the fork
- * and the replicas named.
+ * place, each replica's rule, and each that breaks both rule 1 and rule 2. Of a report these rules
+ * of document 01 are checked by themselves besides: the bytes around it stay, a refusal has nothing
+ * but number and place, a fork names somebody, a submission audited beside itself breaks no rule
+ * but that on leaves (document 02, W5), whoever breaks it there is named beside any other,
+ * exchanging the submissions keeps the fork and the replicas named, and a replica that breaks both
+ * rule 1 and rule 2 has rule 2 in its row (document 02, W6).
  */
 #define _GNU_SOURCE
 #include "hirelog.h"
@@ -26,13 +27,19 @@ enum { HEAD = 8, REPORT_ROOM = 256 };
 /* Places of a refusal, rules, records of a log, where a roster has n. */
 enum { PLACES = 3, RULES = HIRELOG_RULE_ONE_LEAF, RECORDS_MOST = 4096, REPLICAS_AT = 16 };
 
+/* The rule on stamps. */
+enum { STAMPS = 2 };
+
 /*
  * What libFuzzer counts as new beside the branches: each number in each place, then each
- * replica's rule.
+ * replica's rule, then each replica that breaks both rule 1 and rule 2.
  */
-enum { SEEN_RULES = PLACES * (HIRELOG_BAD_SIGNATURE + 1) };
+enum {
+    SEEN_RULES = PLACES * (HIRELOG_BAD_SIGNATURE + 1),
+    SEEN_BOTH = SEEN_RULES + REPLICAS_MOST * (RULES + 1)
+};
 __attribute__((used, section("__libfuzzer_extra_counters"))) static volatile uint8_t
-    seen[SEEN_RULES + REPLICAS_MOST * (RULES + 1)];
+    seen[SEEN_BOTH + REPLICAS_MOST];
 
 struct input {
     const uint8_t *parts[PARTS];
@@ -172,6 +179,21 @@ static void check_report(const struct input *input, uint32_t number, const uint8
     }
 }
 
+/* Of accepted submissions: whoever breaks both rule 1 and rule 2 has the latter in its row. */
+static void check_both(const struct input *input, const uint8_t *report)
+{
+    uint32_t both =
+        auditor_breaks_both(input->parts[ROSTER], input->lens[ROSTER], input->parts[FIRST],
+                            input->lens[FIRST], input->parts[SECOND], input->lens[SECOND]);
+    for (unsigned k = 1; k <= REPLICAS_MOST; k++) {
+        if (!(both >> (k - 1) & 1))
+            continue;
+        seen[SEEN_BOTH + k - 1] = 1;
+        if (report_rule(report, k) != STAMPS)
+            fail("a replica that breaks rules 1 and 2, and another than 2 in its row");
+    }
+}
+
 /* Of accepted submissions: each beside itself, and the two exchanged. */
 static void check_again(const struct input *input, const uint8_t *report)
 {
@@ -200,7 +222,9 @@ int LLVMFuzzerTestOneInput(const uint8_t *data, size_t size)
         return 0;
     uint32_t number = call(&input, report);
     check_report(&input, number, report);
-    if (number == HIRELOG_OK)
+    if (number == HIRELOG_OK) {
+        check_both(&input, report);
         check_again(&input, report);
+    }
     return 0;
 }

@@ -5,8 +5,11 @@
 //! report, output or root writable and apart from the others.
 
 use auditor::assemble::assemble;
-use auditor::audit::audit;
+use auditor::audit::{audit, charges};
 use auditor::lms::{candidate, check};
+use auditor::numbers::{TWO_STAMPS, TWO_VOTES};
+use auditor::roster::{mask_of, Roster};
+use auditor::submission::Submission;
 use auditor::verdicts::Verdicts;
 use std::cell::RefCell;
 use std::slice::{from_raw_parts, from_raw_parts_mut};
@@ -53,6 +56,35 @@ pub unsafe extern "C" fn auditor_audit(
             verdicts,
         )
     })
+}
+
+/// The replicas that break both rule 1 and rule 2, as bits; 0 if an input is refused.
+///
+/// # Safety
+/// As above.
+#[no_mangle]
+pub unsafe extern "C" fn auditor_breaks_both(
+    roster: *const u8,
+    roster_len: usize,
+    first: *const u8,
+    first_len: usize,
+    second: *const u8,
+    second_len: usize,
+) -> u32 {
+    let Ok(roster) = Roster::read(from_raw_parts(roster, roster_len)) else {
+        return 0;
+    };
+    let two = [from_raw_parts(first, first_len), from_raw_parts(second, second_len)];
+    let read = |bytes| with_verdicts(|verdicts| Submission::read(&roster, bytes, verdicts));
+    let [Ok(first), Ok(second)] = two.map(read) else {
+        return 0;
+    };
+    let charges = charges(&first, &second);
+    let [votes, stamps] = [TWO_VOTES, TWO_STAMPS].map(|rule| {
+        let broken = charges.iter().filter(|(_, charge)| charge.rule == rule);
+        broken.fold(0, |replicas, (k, _)| replicas | mask_of(&[*k]))
+    });
+    (votes & stamps).into()
 }
 
 /// What hirelog_assemble has to return as its number, and to write; its length is written too.

@@ -21,6 +21,8 @@ size_t LLVMFuzzerMutate(uint8_t *data, size_t size, size_t max_size);
 uint32_t auditor_audit(const uint8_t *roster, size_t roster_len, const uint8_t *first,
                        size_t first_len, const uint8_t *second, size_t second_len,
                        uint8_t *report, size_t report_len);
+uint32_t auditor_breaks_both(const uint8_t *roster, size_t roster_len, const uint8_t *first,
+                             size_t first_len, const uint8_t *second, size_t second_len);
 uint32_t auditor_assemble(const uint8_t *roster, size_t roster_len, const uint8_t *log,
                           size_t log_len, const uint8_t *items, size_t items_len, uint8_t *output,
                           size_t output_len, size_t *length);
