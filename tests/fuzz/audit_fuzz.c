@@ -27,9 +27,6 @@ enum { HEAD = 8, REPORT_ROOM = 256 };
 /* Places of a refusal, rules, records of a log, where a roster has n. */
 enum { PLACES = 3, RULES = HIRELOG_RULE_ONE_LEAF, RECORDS_MOST = 4096, REPLICAS_AT = 16 };
 
-/* The rule on stamps. */
-enum { STAMPS = 2 };
-
 /*
  * What libFuzzer counts as new beside the branches: each number in each place, then each
  * replica's rule, then each replica that breaks both rule 1 and rule 2.
@@ -189,7 +186,7 @@ static void check_both(const struct input *input, const uint8_t *report)
         if (!(both >> (k - 1) & 1))
             continue;
         seen[SEEN_BOTH + k - 1] = 1;
-        if (report_rule(report, k) != STAMPS)
+        if (report_rule(report, k) != HIRELOG_RULE_TWO_STAMPS)
             fail("a replica that breaks rules 1 and 2, and another than 2 in its row");
     }
 }
