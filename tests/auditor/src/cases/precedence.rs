@@ -1,5 +1,5 @@
 //! The order for choosing a row (document 02, W6): 2, 1, 3, 4, 5. Replicas that break several
-//! rules, and what their rows have, which was found by hand.
+//! rules, and what their rows have, which was found by hand but for those of `drawn`.
 
 mod drawn;
 mod fixed;

@@ -25,8 +25,8 @@ pub struct Field {
 }
 
 impl Field {
-    /// The rule in the row of a replica that signed both requests, and its term: of one candidate
-    /// of both, and of a leader of term 1 that stamped two logs, rule 2.
+    /// The row of a replica that signed both requests. It has rule 2 for replica 1 if that is the
+    /// candidate of both, and for the leader of term 1 if that stamped two logs.
     fn row(&self, replica: u16, roles: &Roles) -> String {
         match replica {
             1 if !self.candidates => "board 1 rule 2 term 4\n".into(),
