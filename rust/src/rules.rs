@@ -81,7 +81,7 @@ impl Charge {
         let clauses: Vec<String> = not_broken.into_iter().chain(untold).collect();
         Some(format!(
             "Of the rules that a board broke its line has the first in the order {}. In these \
-             submissions board {replica} {}.",
+             submissions, first and second as given, board {replica} {}.",
             ORDER.map(|rule| rule.to_string()).join(", "),
             clauses.join(", and ")
         ))
@@ -158,8 +158,9 @@ mod tests {
             (5, &[2, 1, 3, 4], &[]),
         ] {
             let told = Charge { rule, term: 4711 }.others(8).expect("a sentence");
-            let (why, what) =
-                told.split_once(". In these submissions board 8 ").expect("two parts");
+            let (why, what) = told
+                .split_once(". In these submissions, first and second as given, board 8 ")
+                .expect("two parts");
             assert_eq!(rules_in(why), [2, 1, 3, 4, 5], "{told}");
             let at = what.find("may have broken").unwrap_or(what.len());
             assert_eq!(rules_in(&what[..at]), earlier, "{told}");

@@ -10,9 +10,9 @@
  * have to be those of the separately written auditor. The library has no counters of its own, so
  * what leads the fuzzer on is the auditor's branches, and what the audit says: its number and
  * place, each replica's rule, and each that breaks both rule 1 and rule 2. Of a report these rules
- * of document 01 are checked by themselves besides: the bytes around it stay, a refusal has nothing
- * but number and place, a fork names somebody, a submission audited beside itself breaks no rule
- * but that on leaves (document 02, W5), whoever breaks it there is named beside any other,
+ * of documents 01 and 02 are checked by themselves besides: the bytes around it stay, a refusal has
+ * nothing but number and place, a fork names somebody, a submission audited beside itself breaks no
+ * rule but that on leaves (document 02, W5), whoever breaks it there is named beside any other,
  * exchanging the submissions keeps the fork and the replicas named, and a replica that breaks both
  * rule 1 and rule 2 has rule 2 in its row (document 02, W6).
  */

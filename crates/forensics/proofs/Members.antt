@@ -1,17 +1,17 @@
 -- Where charges come from: each is of two statements or of two uses of a leaf, and a row is one of them.
 -- Assumes nothing.
-use mathlib.Core.Path.{_≡_, refl, subst}
+use mathlib.Core.Path.{_≡_, refl, sym, subst}
 use mathlib.Core.Bool.{Bool, true, false, cond}
 use mathlib.Core.List.{List, [], _∷_, _++_, flatMap, List·Memᴰ, List·Memᴰ·head, List·Memᴰ·tail, List·Memᴰ·not-nil, List·Memᴰ·eq-of-singleton, List·Memᴰ·append-cases}
 use mathlib.Core.Logic.{_⊎_, inl, inr, ⊎-elim}
-use mathlib.Core.Option.{Option, some, none}
+use mathlib.Core.Option.{Option, some, none, Option·some-ne-none, Option·some-injective}
 use Prim.Native.Nat.{ℕ, _<_}
 use native.Mathlib.Omega.{arith}
 use Rattle.words.proofs.Members.{joined-mem}
 use Rattle.lm_format.specs.Leaf.{leafNumber}
-use Rattle.lm_format.specs.Uses.{Use, reused}
+use Rattle.lm_format.specs.Uses.{Use}
 use Rattle.log_chain.specs.Claim.{Claim, stamped, received, voted}
-use Rattle.replica.specs.Charges.{Charge, charge, clash, twoVotes, twoStamps, staleVote, leafClash}
+use Rattle.replica.specs.Charges.{Charge, charge, clash, leafClash}
 use Rattle.submission.specs.View.{Slot}
 use Rattle.submission.specs.Validate.{uses}
 use Rattle.forensics.specs.Findings.{says, charges, leafCharges, allCharges, sooner, lower, lowest}
@@ -37,20 +37,20 @@ pub record Of (x y : Claim) (c : Charge) : Type 0 where
 
 pub clash-of : (x y : Claim) (c : Charge) → List·Memᴰ c (clash x y) → Of x y c
 unfolding clash
-clash-of (voted a) (voted b) c m = rw (charge-is (twoVotes a b) 1 (a .term) c m) (record { rule = omega arith; term = inl refl })
-clash-of (stamped t l) (stamped u k) c m = rw (charge-is (twoStamps t l u k) 2 t c m) (record { rule = omega arith; term = inl refl })
-clash-of (received t l) (voted b) c m = rw (charge-is (staleVote t l b) 3 (b .term) c m) (record { rule = omega arith; term = inr refl })
-clash-of (voted b) (received t l) c m = rw (charge-is (staleVote t l b) 4 (b .term) c m) (record { rule = omega arith; term = inl refl })
+clash-of (voted a) (voted b) c m = rw (charge-is _ _ _ c m) (record { rule = omega arith; term = inl refl })
+clash-of (stamped t l) (stamped u k) c m = rw (charge-is _ _ _ c m) (record { rule = omega arith; term = inl refl })
+clash-of (received t l) (voted b) c m = rw (charge-is _ _ _ c m) (record { rule = omega arith; term = inr refl })
+clash-of (voted b) (received t l) c m = rw (charge-is _ _ _ c m) (record { rule = omega arith; term = inl refl })
 clash-of (voted a) (stamped u k) c m = absurd (List·Memᴰ·not-nil m)
 clash-of (stamped t l) (voted b) c m = absurd (List·Memᴰ·not-nil m)
 clash-of (stamped t l) (received u k) c m = absurd (List·Memᴰ·not-nil m)
 clash-of (received t l) (stamped u k) c m = absurd (List·Memᴰ·not-nil m)
 clash-of (received t l) (received u k) c m = absurd (List·Memᴰ·not-nil m)
 
--- one of two uses has rule 5, and the leaf's number
+-- a charge of two uses has rule 5, and the leaf's number
 pub reuse-of : (u v : Use) (c : Charge) → List·Memᴰ c (leafClash u v) → c ≡ record { rule = 5; term = leafNumber (u .leaf) }
 unfolding leafClash
-reuse-of u v c m = charge-is (reused u v) 5 (leafNumber (u .leaf)) c m
+reuse-of u v c m = charge-is _ _ _ c m
 
 -- what holds of the charges of every two of a replica's statements, and of every two of its uses, holds of all
 module _ (asUse : Slot → Use) (k : ℕ) (xs ys : List Slot) (P : Charge → Type 0)
@@ -88,5 +88,5 @@ lower-mem c (some d) cs h = go (sooner d c)
 
 pub lowest-mem : (cs : List Charge) (d : Charge) → lowest cs ≡ some d → List·Memᴰ d cs
 unfolding lowest
-lowest-mem [] d e = absurd (let z : _≡_ {A = ℕ} 0 1 = cc in omega arith)
-lowest-mem (c ∷ cs) d e = let same : lower c (lowest cs) ≡ d = cc in subst (λ x. List·Memᴰ x (c ∷ cs)) same (lower-mem c (lowest cs) cs (lowest-mem cs))
+lowest-mem [] d e = absurd (Option·some-ne-none d (sym e))
+lowest-mem (c ∷ cs) d e = subst (λ x. List·Memᴰ x (c ∷ cs)) (Option·some-injective _ _ e) (lower-mem c (lowest cs) cs (lowest-mem cs))

@@ -1,8 +1,8 @@
 -- The mask of the rows: bit k - 1 is a one exactly where replica k has a charge, and there is none above the rows.
 -- Assumes nothing.
-use mathlib.Core.Path.{_≡_, refl, ap, _∙_}
+use mathlib.Core.Path.{_≡_, ap, _∙_}
 use mathlib.Core.Bool.{true, false}
-use mathlib.Core.List.{List, [], _∷_, List·Memᴰ, List·Memᴰ·not-nil}
+use mathlib.Core.List.{List, [], _∷_, List·Memᴰ}
 use mathlib.Core.Option.{Option, some, none}
 use Prim.Native.Nat.{ℕ, zero, suc, _+_, _-_, _*_, _/_, _%_, _^_, _≤_, _<_}
 use native.Mathlib.Nat.{div-one, pow-suc}
@@ -15,19 +15,15 @@ use Rattle.roster.proofs.Quorums.{shift}
 use Rattle.roster.proofs.Masks.{signer-positive}
 use Rattle.replica.specs.Charges.{Charge}
 use Rattle.submission.specs.View.{Slot}
-use Rattle.forensics.specs.Findings.{allCharges, lowest, lower, rowsFrom, bit, maskOf}
+use Rattle.forensics.specs.Findings.{allCharges, lowest, rowsFrom, bit, maskOf}
+use Rattle.forensics.proofs.Order.{lowest-first}
 
 -- ---- one row
 
--- a replica with a charge has a row, and a one
-pub lowest-some : (cs : List Charge) (c : Charge) → List·Memᴰ c cs → (d : Charge) × (lowest cs ≡ some d)
-unfolding lowest
-lowest-some [] c m = absurd (List·Memᴰ·not-nil m)
-lowest-some (d ∷ cs) c m = (lower d (lowest cs), refl)
-
+-- a replica with a charge has a one
 bit-one : (cs : List Charge) (c : Charge) → List·Memᴰ c cs → bit (lowest cs) ≡ 1
 unfolding bit
-bit-one cs c m = rw (lowest-some cs c m .1)
+bit-one cs c m = rw (lowest-first cs c m .1)
 
 bit-none : (cs : List Charge) → cs ≡ [] → bit (lowest cs) ≡ 0
 unfolding bit lowest

@@ -1,5 +1,5 @@
 // What the rules charge a replica with, from two terms, from a receipt and a term, or from the uses of its
-// leaves, as a row of the report (document 01, "The report").
+// leaves, as a row of the report (document 01, "The report"; document 02, W4 to W6).
 ghost use mathlib.Core.Path.{_≡_};
 ghost use mathlib.Core.List.{[]};
 ghost use Prim.Native.Nat.{_<_};
@@ -62,7 +62,7 @@ fn rank(rule: u8) -> u64
     rule as u64 + 1
 }
 
-// The lower of two rows: that of the rule which is first in this order and, for one rule, the lower term.
+// The lower of two rows: that of the rule which is earlier in this order and, for one rule, the lower term.
 pub fn lower_row(x: Row, y: Row) -> Row
     ensures { λ r. ⌜ inner.chargeOf r ≡ inner.least (inner.chargeOf x) (inner.chargeOf y) ⌝ }
 {

@@ -40,13 +40,13 @@ module _ (form : Form) where
   claim-fits (received t log) f = f .term
   claim-fits (voted b) f = f .term
 
+  says-fit : (k : ℕ) (zs : List Slot) → ((z : Slot) → List·Memᴰ z zs → ClaimFits form (z .claim)) → (x : Claim) → List·Memᴰ x (says k zs) → termOf x < 256 ^ form .termBytes
+  says-fit k zs f x m = let z = says-slot k zs x m in claim-fits x (subst (ClaimFits form) (sym (z .3)) (f (z .0) (z .1)))
+
   -- the statements of two submissions fit their fields, and so do their leaves
   module _ (asUse : Slot → Use) (xs ys : List Slot)
       (fx : (x : Slot) → List·Memᴰ x xs → ClaimFits form (x .claim)) (fy : (y : Slot) → List·Memᴰ y ys → ClaimFits form (y .claim))
       (fu : (x : Slot) → List·Memᴰ x (xs ++ ys) → leafNumber (asUse x .leaf) < 256 ^ form .termBytes) where
-    says-fit : (k : ℕ) (zs : List Slot) → ((z : Slot) → List·Memᴰ z zs → ClaimFits form (z .claim)) → (x : Claim) → List·Memᴰ x (says k zs) → termOf x < 256 ^ form .termBytes
-    says-fit k zs f x m = let z = says-slot k zs x m in claim-fits x (subst (ClaimFits form) (sym (z .3)) (f (z .0) (z .1)))
-
     -- a charge has the term of one of the two statements, or the number of the leaf
     all-fit : (k : ℕ) (c : Charge) → List·Memᴰ c (allCharges asUse k xs ys) → Fits c
     all-fit k =

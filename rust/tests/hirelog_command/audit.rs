@@ -79,7 +79,7 @@ fn stamps_before_votes() {
     let (stamped, voted) = ("board 1 rule 2 term 2\n", "board 2 rule 1 term 2\n");
     let order =
         "Of the rules that a board broke its line has the first in the order 2, 1, 3, 4, 5. \
-        In these submissions board";
+        In these submissions, first and second as given, board";
     let one = format!("{order} 1 may have broken rule 1, 3, 4 or 5 too.\n");
     let two = format!("{order} 2 did not break rule 2, and may have broken rule 3, 4 or 5 too.\n");
     for (name, voter) in [("votes_and_stamps", ""), ("two_requests", voted)] {
@@ -109,7 +109,8 @@ fn one_leaf() {
             "\nWhat \"board 2 rule 5 term 7\" says: Board 2 signed two different messages with leaf 7 \
              of its key, which is for one",
             "The number in the line is this leaf's, not a term's.",
-            "In these submissions board 2 did not break rule 2, 1, 3 or 4.\n",
+            "In these submissions, first and second as given, board 2 did not break rule 2, 1, 3 \
+             or 4.\n",
             "\nWhat to do: Have board 2 taken out of use",
             "Trust no signature under its key any more: it needs a new one.",
         ] {

@@ -163,7 +163,8 @@ impl Cases<'_> {
         let two = two_requests(&signer.clone(), field, roles, some, None);
         let name = format!("two requests of {n}, another {name}");
         self.both_orders(&name, &signer, &two, &rest);
-        // All break rule 1; for the candidate and the leader of term 1 rule 2 comes before it.
+        // All break rule 1; for one candidate of both, and for a leader of term 1 that stamped two
+        // logs, rule 2 comes before it.
         let all = (1..=n).map(|k| field.row(k as u16, roles)).collect::<String>();
         let everybody = [signer.all(); 2];
         let two = two_requests(&signer.clone(), field, roles, everybody, None);
@@ -229,7 +230,7 @@ impl Cases<'_> {
         let rest = "fork 0\nboard 1 rule 2 term 4\nboard 2 rule 1 term 4\nboard 3 rule 2 term 1\n";
         self.both_orders("one candidate's requests in two terms", &three, &two, rest);
         // One candidate's two requests in one of the terms, two candidates in the other: it stamped
-        // both logs in the one, be there a lower term in which it voted twice.
+        // both logs in the one, even where it voted twice in a lower term.
         for (name, [in_4, in_6], stamped) in [
             ("requests, then candidates", [[1, 1], [1, 2]], 4),
             ("candidates, then requests", [[1, 2], [1, 1]], 6),

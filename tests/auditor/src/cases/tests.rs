@@ -112,9 +112,9 @@ fn counts(seed: u64, size: Size) -> Counts {
         let found = findings(case.roster, case.first, case.second, &mut verdicts);
         if number == 0 {
             let two = read(case, &mut verdicts);
-            former.look(two.each_ref(), &found);
+            former.look(&case.name, two.each_ref(), &found);
             if ["loose", "drawn", "district"].iter().any(|drawn| case.name.starts_with(drawn)) {
-                drawn.look(two.each_ref(), &found);
+                drawn.look(&case.name, two.each_ref(), &found);
                 for (count, found) in requests.iter_mut().zip(two_requests(&two)) {
                     *count += usize::from(found);
                 }

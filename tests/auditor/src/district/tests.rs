@@ -56,7 +56,7 @@ impl Tally {
             self.rules[charge.rule as usize] += 1;
         }
         let [first, second] = [two.0, two.1].map(|claim| district.submission(claim));
-        self.former.look([&first, &second], found);
+        self.former.look("a simulated district", [&first, &second], found);
         for (_, charge) in charges(&first, &second) {
             let led = |claim: &Claim| {
                 let leaders = claim.unsigned().leaders;

@@ -18,8 +18,8 @@ pub struct Former {
 }
 
 impl Former {
-    /// Looks at each row of what two accepted submissions give.
-    pub fn look(&mut self, [first, second]: [&Submission; 2], found: &Findings) {
+    /// Looks at each row of what the two accepted submissions of a case give.
+    pub fn look(&mut self, name: &str, [first, second]: [&Submission; 2], found: &Findings) {
         let (charges, report) = (charges(first, second), found.bytes());
         let mut named = 0;
         for (k, row) in (1..).zip(found.rows) {
@@ -32,9 +32,9 @@ impl Former {
                 terms.min()
             };
             if let (Some(votes), Some(stamps)) = (lowest(1), lowest(2)) {
-                assert_eq!(before, Some(Charge { rule: 1, term: votes }), "replica {k}");
-                assert_eq!(row, Some(Charge { rule: 2, term: stamps }), "replica {k}");
-                assert_eq!(report[ROWS_AT + ROW_SIZE * (k as usize - 1)], 2, "replica {k}");
+                assert_eq!(before, Some(Charge { rule: 1, term: votes }), "{name}: replica {k}");
+                assert_eq!(row, Some(Charge { rule: 2, term: stamps }), "{name}: replica {k}");
+                assert_eq!(report[ROWS_AT + ROW_SIZE * (k as usize - 1)], 2, "{name}: replica {k}");
                 let where_votes_are = match votes.cmp(&stamps) {
                     Less => 0,
                     Equal => 1,
@@ -42,10 +42,10 @@ impl Former {
                 };
                 self.changed[where_votes_are] += 1;
             } else {
-                assert_eq!(row, before, "replica {k}");
+                assert_eq!(row, before, "{name}: replica {k}");
                 self.kept += usize::from(row.is_some());
             }
         }
-        assert_eq!(found.named(), named, "the named set");
+        assert_eq!(found.named(), named, "{name}: the named set");
     }
 }

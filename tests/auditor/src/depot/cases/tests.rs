@@ -79,7 +79,7 @@ fn tally(seed: u64, size: Size) -> Tally {
             for (i, first) in accepted.iter().enumerate() {
                 for second in &accepted[i + 1..] {
                     let pair = compare(first, second);
-                    tally.former.look([first, second], &pair);
+                    tally.former.look(&case.name, [first, second], &pair);
                     assert_eq!(pair.named() & !found.named, 0, "{}", case.name);
                 }
             }
