@@ -1,10 +1,12 @@
 //! Assembling submissions, of the repository's samples and of what they are taken apart into.
 
 mod apart;
+mod pairs;
 
 use apart::{signature_size, Apart};
 use hirelog::sys::{self, Written};
 use hirelog::{assemble, assemble_into, audit, AssembleRefused, Refusal, ASSEMBLED_MAX};
+use pairs::PAIRS;
 use std::{fs, path::Path};
 
 fn sample(name: &str, file: &str) -> Vec<u8> {
@@ -42,15 +44,7 @@ fn the_sample() {
 /// from the end, twice, and among items that are passed over.
 #[test]
 fn taken_apart() {
-    for name in [
-        "empty",
-        "one_leader",
-        "stale_leader",
-        "two_requests",
-        "votes_and_stamps",
-        "one_leaf",
-        "large",
-    ] {
+    for name in PAIRS {
         let [roster, first, second] = ["roster", "first", "second"].map(|file| sample(name, file));
         let other = if name == "large" { "one_leader" } else { "large" };
         let strangers = Apart::of(&sample(other, "roster"), &sample(other, "first")).items;

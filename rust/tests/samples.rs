@@ -1,6 +1,9 @@
 //! The services on the repository's samples and on known values.
 
+mod pairs;
+
 use hirelog::{audit, audit_into, lms_check, sha256, Place, Refusal, Refused, Verdict};
+use pairs::PAIRS;
 use std::{fs, path::Path};
 
 fn sample(name: &str, file: &str) -> Vec<u8> {
@@ -27,15 +30,7 @@ fn lines(roster: &[u8], first: &[u8], second: &[u8]) -> String {
 /// Every sample gives its lines and its report.
 #[test]
 fn samples() {
-    for name in [
-        "empty",
-        "one_leader",
-        "stale_leader",
-        "two_requests",
-        "votes_and_stamps",
-        "one_leaf",
-        "large",
-    ] {
+    for name in PAIRS {
         let [roster, first, second] = ["roster", "first", "second"].map(|file| sample(name, file));
         let expected = String::from_utf8(sample(name, "expected")).expect("lines");
         assert_eq!(lines(&roster, &first, &second), expected, "{name}");

@@ -39,7 +39,7 @@ fn expect(files: &[PathBuf; 3], lines: &str, status: i32) -> Run {
 /// Each sample gives its lines, by its folder and by its files.
 #[test]
 fn samples() {
-    for name in SAMPLES {
+    for name in PAIRS {
         let folder = repository("samples").join(name);
         let lines = fs::read_to_string(folder.join("expected")).expect("lines");
         let status = i32::from(lines.contains("board"));

@@ -94,7 +94,7 @@ fn the_samples_lines() {
 /// The seven pairs that are samples are runs of two.
 #[test]
 fn pairs() {
-    for name in SAMPLES {
+    for name in PAIRS {
         let folder = repository("samples").join(name);
         let audit = fs::read_to_string(folder.join("expected")).expect("lines");
         let fork = if audit.contains("fork 0\n") { "fork 0 0\n" } else { "fork 1 2\n" };

@@ -11,8 +11,11 @@ mod digest;
 mod district;
 mod files;
 mod json;
+#[path = "../pairs/mod.rs"]
+mod pairs;
 mod usage;
 
+use pairs::PAIRS;
 use std::ffi::OsStr;
 use std::fs;
 use std::path::{Path, PathBuf};
@@ -104,16 +107,6 @@ fn quoted(path: &Path) -> String {
 fn repository(path: &str) -> PathBuf {
     Path::new(env!("CARGO_MANIFEST_DIR")).parent().expect("the repository").join(path)
 }
-
-const SAMPLES: [&str; 7] = [
-    "empty",
-    "one_leader",
-    "stale_leader",
-    "two_requests",
-    "votes_and_stamps",
-    "one_leaf",
-    "large",
-];
 
 /// The roster, the first and the second submission of a sample.
 fn sample(name: &str) -> [PathBuf; 3] {
