@@ -7,13 +7,13 @@ use mathlib.Core.List.{List, [], _∷_}
 use Prim.Native.Nat.{ℕ, zero, suc, _+_, _-_, _*_, _/_, _^_, _≤_, _<_}
 use native.Mathlib.Nat.{le-trans, lt-of-lt-of-le, le-of-suc-le-suc, lt-of-not-le, suc-mul, mul-comm, mul-assoc, add-mul, mul-le-mul, mul-le-mul-left, mul-le-mul-right, mod-lt, div-le-self, div-add-mod', div-lt-iff-lt-mul}
 use native.Mathlib.Omega.{arith}
-use lib.Dec.{eqb, lit≤}
+use lib.Dec.{eqb, lit≤, lit<}
 use lib.Pow.{pow-pos, pow-mono, shl-lt}
 use Rattle.lm_digits.specs.declared.Parameters.{Parameters}
 use Rattle.lm_digits.specs.declared.OneTime.{OneTime}
 use Rattle.lm_digits.specs.declared.OneTime.the-variants.{Known, Unknown}
 use Rattle.lm_digits.specs.Parameters.{row, oneTime, messageDigits, Follows}
-use Rattle.lm_digits.specs.Digits.{coef, sum, checksum}
+use Rattle.lm_digits.specs.Digits.{coef, toLargest, sum, checksum}
 use Rattle.lm_digits.proofs.Widths.{width-pos, pow-le, digit-inside, message-fits}
 
 -- ---- digits and their sum
@@ -23,9 +23,9 @@ unfolding coef
 digit-lt w s i = mod-lt _ (pow-pos w)
 
 pub sum-le : (w : ℕ) (s : List ℕ) (i : ℕ) → sum w s i ≤ i * (2 ^ w - 1)
-unfolding sum
+unfolding sum toLargest
 sum-le w s zero = omega arith
-sum-le w s (suc i) = let h = sum-le w s i in rw suc-mul (omega arith)
+sum-le w s (suc i) = let h = sum-le w s i in rw suc-mul (omega (arith, digit-lt w s i))
 
 largest-le : (w : ℕ) → w * (8 / w) ≡ 8 → 2 ^ w - 1 ≤ 255
 largest-le w whole = omega (arith, pow-le w whole)
@@ -138,6 +138,14 @@ known-width number =
 pub known-few : (number : ℕ) {o : Parameters} → oneTime number ≡ Known o → o .chains ≤ 265
 unfolding oneTime row
 known-few number = each-known (λ p. p .chains ≤ 265) number (lit≤ tt) (lit≤ tt) (lit≤ tt) (lit≤ tt)
+
+-- the digits of Q fill its 32 bytes, and there are more chains than these
+pub known-message : (number : ℕ) {o : Parameters} → oneTime number ≡ Known o
+    → (messageDigits (o .bits) * o .bits ≡ 8 * 32) × (messageDigits (o .bits) < o .chains)
+unfolding oneTime row messageDigits
+known-message number =
+    each-known (λ p. (8 * 32 / p .bits * p .bits ≡ 8 * 32) × (8 * 32 / p .bits < p .chains)) number
+    (refl, lit< tt) (refl, lit< tt) (refl, lit< tt) (refl, lit< tt)
 
 -- ---- RFC 8554, 3.1.3: the digits of 0x1234
 

@@ -1,3 +1,4 @@
 pub mod Counting
 pub mod Figures
+pub mod Steps
 pub mod Widths

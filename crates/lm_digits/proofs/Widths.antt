@@ -2,7 +2,7 @@
 -- Assumes nothing.
 use mathlib.Core.Path.{_≡_, sym, ap, _∙_}
 use Prim.Native.Nat.{ℕ, zero, suc, _+_, _*_, _/_, _%_, _^_, _≤_, _<_}
-use native.Mathlib.Nat.{mul-comm, mul-suc, mul-le-mul-left, mul-lt-mul-of-pos-right, mod-lt, div-mul-le-self, mul-div-mul-right, div-lt-iff-lt-mul}
+use native.Mathlib.Nat.{mul-comm, mul-suc, mul-le-mul-left, mul-lt-mul-of-pos-right, mod-lt, div-le-self, div-mul-le-self, mul-div-mul-right, div-lt-iff-lt-mul}
 use native.Mathlib.Omega.{arith}
 use lib.Dec.{lit<}
 use lib.Pow.{pow-mono}
@@ -11,6 +11,11 @@ use Rattle.lm_digits.specs.Parameters.{messageDigits}
 factor-pos : (a b : ℕ) → a * b ≡ 8 → 0 < a
 factor-pos zero b e = omega arith
 factor-pos (suc a) b e = omega arith
+
+-- Q has at most 256 digits
+pub message-few : (w : ℕ) → messageDigits w ≤ 256
+unfolding messageDigits
+message-few w = div-le-self 256 w
 
 module _ (w : ℕ) (whole : w * (8 / w) ≡ 8) where
   -- ---- sizes

@@ -26,14 +26,23 @@ pub fn digit(s: &[u8], bits: u32, i: usize) -> u32
     (words::wide(s[at]) >> after) % (1 << bits)
 }
 
-// What each digit of the first 32 bytes is short of the largest, added up (RFC 8554, 4.4,
-// algorithm 2).
-pub fn digit_sum(s: &[u8], bits: u32) -> u32
-    requires { ⌜ (bits * (8 / bits) ≡ 8) × (32 ≤ length (now s)) ⌝ }
-    ensures { λ r. ⌜ r ≡ sum bits (now (s .entry)) (messageDigits bits) ⌝ }
+// How many digits Q has (RFC 8554, appendix B: u).
+fn message_digits(bits: u32) -> usize
+    requires { ⌜ bits * (8 / bits) ≡ 8 ⌝ }
+    ensures { λ r. ⌜ r ≡ messageDigits bits ⌝ }
 {
-    let largest = (1 << bits) - 1;
-    let count = (256 / bits) as usize;
+    (8 * (HASH_SIZE as u32) / bits) as usize
+}
+
+// How far each of the first digits of a byte string is from the largest, added up (RFC 8554, 4.4,
+// algorithm 2): for the digits of Q the checksum before its shift, for all digits of Q || Cksm(Q) the
+// steps of all chains (4.6, algorithm 4b, step 3).
+pub fn digit_sum(s: &[u8], bits: u32, count: usize) -> u32
+    requires { ⌜ (bits * (8 / bits) ≡ 8) × (count ≤ chainsMost)
+        × ((i : ℕ) → i < count → i * bits / 8 < length (now s)) ⌝ }
+    ensures { λ r. ⌜ r ≡ sum bits (now (s .entry)) count ⌝ }
+{
+    let largest: u32 = (1 << bits) - 1;
     let mut total: u32 = 0;
     let mut i = 0;
     while i < count {
@@ -48,7 +57,7 @@ pub fn with_checksum(q: [u8; HASH_SIZE], o: Parameters) -> [u8; CHECKED_SIZE]
     requires { ⌜ (o .bits * (8 / o .bits) ≡ 8) × (o .shift < 32) ⌝ }
     ensures { λ r. ⌜ r ≡ withChecksum o q ⌝ }
 {
-    let checksum = digit_sum(&q, o.bits) << o.shift;
+    let checksum = digit_sum(&q, o.bits, message_digits(o.bits)) << o.shift;
     let mut s = [0u8; CHECKED_SIZE];
     let mut i = 0;
     while i < HASH_SIZE {

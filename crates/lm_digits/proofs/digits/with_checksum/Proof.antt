@@ -10,7 +10,8 @@ use lib.ListN.{length, getD, take, length-set, drop-of-length-le}
 use lib.Seq.{take-suc, take-suc-set, take-all, sets, sets-eq}
 use Rattle.words.specs.BigEndian.{be}
 use Rattle.words.proofs.Laws.{length-be}
-use Rattle.lm_digits.specs.Digits.{checksum, withChecksum}
+use Rattle.lm_digits.specs.Digits.{sum, checksum, withChecksum}
+use Rattle.lm_digits.proofs.Widths.{digit-inside, message-fits, message-few}
 use Rattle.lm_digits.proofs.digits.with_checksum.Statement.{statement}
 use Rattle.lm_digits.proofs.digits.with_checksum.Tie as tie
 
@@ -29,7 +30,13 @@ abbrev μ-loop : tie.MeasureT-loop
 μ-loop q sum s₀ i₀ s i = 32 - i
 
 digit-sum-requires : tie.Need-digit-sum-requires Inv-loop μ-loop
-digit-sum-requires c κs = (c .before .pre .0, search needs)
+digit-sum-requires c κs =
+    let start = c .before .before in
+    let whole = start .pre .0 in
+    let w = start .args .o .bits in
+    let count = c .message-digits .ensures in
+    let inside : length (start .args .t1) ≡ 32 = search needs in
+    (whole, rw count (omega (arith, message-few w)), λ i h. rw inside (digit-inside w whole _ 32 (rw count (message-fits w whole)) i h))
 
 loop-holds : tie.Need-loop-holds Inv-loop μ-loop
 loop-holds c = (search needs, refl, refl)
@@ -46,7 +53,7 @@ loop-less c = omega arith
 loop-again : tie.Need-loop-again Inv-loop μ-loop
 loop-again c =
     let l = c .before .loop in
-    let q = c .before .before .before .before .before .args .t1 in
+    let q = c .before .before .before .before .before .before .args .t1 in
     let inside : l .i < length q = search needs in (
       omega arith,
       simp length-set (l .inv .1),
@@ -62,18 +69,19 @@ put-u16-requires c κs = omega arith
 returns : tie.Need-returns Inv-loop μ-loop
 unfolding withChecksum checksum
 returns c =
-    let start = c .before .before .before .before .before .before .before .before in
+    let called = c .before .before .before .before .before .before in
+    let start = called .before .before .before in
     let q = start .args .t1 in
     let o = start .args .o in
     let l = c .before .before .before .before .loop in
     let long : length q ≡ 32 = search needs in
     let end : l .i ≡ 32 = omega arith in
     let copied : take 32 (l .s) ≡ q = (rw end at (l .inv .2)) ∙ take-all 32 q (omega arith) in
-    let sum = c .before .before .before .before .before .before .digit-sum .ensures in
+    let total = called .digit-sum .ensures ∙ ap (sum (o .bits) q) (called .before .message-digits .ensures) in
     let two = be 2 (checksum o q) in
     let pair : length two ≡ 2 = length-be 2 (checksum o q) in
     c .before .put-u16 .ensures
-    ∙ ap (λ (n : ℕ). sets (l .s) 32 (be 2 (n * 2 ^ o .shift % 4294967296 % 65536))) sum
+    ∙ ap (λ (n : ℕ). sets (l .s) 32 (be 2 (n * 2 ^ o .shift % 4294967296 % 65536))) total
     ∙ ap (sets (l .s) 32) (lowest-two (checksum o q))
     ∙ sets-eq two (l .s) 32 (omega arith)
     ∙ rw (copied, drop-of-length-le (l .s) {i = 32 + length two} (omega arith), append-nil)
@@ -85,6 +93,7 @@ with-checksum-spec =
     Inv-loop
     μ-loop
     (λ c. search needs)
+    (λ c κs. c .before .pre .0)
     digit-sum-requires
     (λ c. search needs)
     loop-holds
