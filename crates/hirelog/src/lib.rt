@@ -1,8 +1,9 @@
 // The exported services, for C callers (include/hirelog.h has the rules).
 ghost use mathlib.Core.Path.{_≡_};
 ghost use Rattle.sha256.specs.Service.{digestNumber, digestAfter};
-ghost use Rattle.lm_answer.specs.Number.{answerNumber, answerLeaf};
+ghost use Rattle.lm_answer.specs.Number.{answerNumber, answerLeaf, answerSteps};
 ghost use Rattle.lms.specs.Check.{answer};
+ghost use Rattle.lms.specs.Steps.{StepsCounted};
 ghost use Rattle.report.specs.Report.{auditNumber, reportAfter};
 ghost use Rattle.report.specs.Claims.{Naming, Fairness};
 ghost use Rattle.district.specs.District.{districtNumber, districtAfter};
@@ -24,13 +25,18 @@ pub extern "C" fn hirelog_sha256(message: &[u8], digest: &mut [u8; 32]) -> u32
 
 // The LMS signature check (document 01, "Digest and signature"; RFC 8554): 0 for good, 15 for bad, and 16,
 // before anything else, for a message of more than 16,777,216 bytes; with 0 also the number of the
-// signature's leaf (document 02, W5), with 15 and 16 leaf 0.
+// signature's leaf (document 02, W5), with 15 and 16 leaf 0; with 0 and 15 the chain steps of the check (W7),
+// 0 where it does not come to the chains, with 16 none.
 #[no_mangle]
 pub extern "C" fn hirelog_lms_check(key: &[u8], message: &[u8], signature: &[u8]) -> LmsAnswer
     ensures number { λ r. ⌜ r .number
         ≡ answerNumber (answer (now (key .entry)) (now (message .entry)) (now (signature .entry))) ⌝ }
     ensures leaf { λ r. ⌜ r .leaf
         ≡ answerLeaf (answer (now (key .entry)) (now (message .entry)) (now (signature .entry))) ⌝ }
+    ensures steps { λ r. ⌜ r .steps
+        ≡ answerSteps (answer (now (key .entry)) (now (message .entry)) (now (signature .entry))) ⌝ }
+    ensures counted { λ r. ⌜ StepsCounted (now (key .entry)) (now (message .entry)) (now (signature .entry))
+        (r .steps) ⌝ }
 {
     lm_answer::exported(lms::check(key, message, signature))
 }

@@ -9,9 +9,10 @@ use lib.ListN.{length, getD, take, drop, length-drop}
 use Rattle.words.specs.BigEndian.{be, numberAt}
 use Rattle.words.proofs.Laws.{bytes-each, bytes-drop}
 use Rattle.sha256.specs.declared.State.{State}
-use Rattle.sha256.specs.Sha256.{parse, wordsOf, bytesOf}
+use Rattle.sha256.specs.Sha256.{parse, wordsOf, bytesOf, sha256}
 use Rattle.lm_hash.specs.declared.Leaf.{Leaf}
 use Rattle.lm_hash.specs.Identifier.{identifier}
+use Rattle.lm_hash.specs.Tagged.{tagged}
 use Rattle.sha256.proofs.Blocks.{parse-at, bytes-parse}
 
 -- the n words at a place
@@ -65,3 +66,7 @@ head-length leaf q d = refl
 pub length-bytes : (v : State) → length (bytesOf v) ≡ 32
 unfolding be bytesOf wordsOf flatMap
 length-bytes v = refl
+
+pub length-tagged : (I : List ℕ) (q d : ℕ) (rest : List ℕ) → length (tagged I q d rest) ≡ 32
+unfolding tagged sha256
+length-tagged I q d rest = length-bytes _

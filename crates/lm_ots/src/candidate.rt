@@ -6,6 +6,7 @@ ghost use Rattle.sha256.specs.Service.{limit};
 ghost use Rattle.sha256.specs.Sha256.{bytesOf};
 ghost use Rattle.lm_hash.specs.Identifier.{identifier};
 ghost use Rattle.lm_digits.specs.Listed.{Listed, checkedSize};
+ghost use Rattle.lm_digits.specs.Digits.{steps};
 ghost use Rattle.lm_ots.specs.Candidate as rfc;
 use super::walk;
 use lm_digits::CHAINS_MOST;
@@ -39,18 +40,31 @@ fn put_ends(leaf: Leaf, o: Parameters, s: &[u8], y: &[u8], out: &mut [u8])
     }
 }
 
-// Kc, from C and y[0] to y[p-1] one after the other.
-pub fn candidate(leaf: Leaf, o: Parameters, message: &[u8], signature: &[u8]) -> State
+// Kc, and the steps of all chains that lead to it (document 02, W7).
+pub struct KeyCandidate {
+    pub key: State,
+    pub steps: u32,
+}
+
+// Kc, from C and y[0] to y[p-1] one after the other, with the steps. They are counted from the digits, beside
+// the chains.
+pub fn candidate(leaf: Leaf, o: Parameters, message: &[u8], signature: &[u8]) -> KeyCandidate
     requires { ⌜ Listed o × (length (now message) ≤ limit)
         × (length (now signature) ≡ 32 * (o .chains + 1)) ⌝ }
-    ensures { λ r. ⌜ bytesOf r
+    ensures key { λ r. ⌜ bytesOf (r .key)
         ≡ rfc.candidate o (identifier leaf) (leaf .q) (take 32 (now (signature .entry)))
         (drop 32 (now (signature .entry))) (now (message .entry)) ⌝ }
+    ensures steps { λ r. ⌜ r .steps
+        ≡ steps o (rfc.messageHash (identifier leaf) (leaf .q) (take 32 (now (signature .entry)))
+        (now (message .entry))) ⌝ }
 {
     let q = lm_hash::tagged_message(leaf, leaf.q, D_MESG, &signature[..32], message);
     let s = digits::with_checksum(q.bytes(), o);
     let mut ends = [0u8; ENDS_MOST];
     put_ends(leaf, o, &s, &signature[32..], &mut ends);
     let n = 32 * o.chains;
-    lm_hash::tagged(leaf, leaf.q, D_PBLC, &ends[..n])
+    KeyCandidate {
+        key: lm_hash::tagged(leaf, leaf.q, D_PBLC, &ends[..n]),
+        steps: digits::digit_sum(&s, o.bits, o.chains),
+    }
 }

@@ -1,7 +1,7 @@
 -- The leaf of a good signature is one of its tree's, so that its number fits four bytes.
 -- Assumes nothing.
 use mathlib.Core.Path.{_≡_, refl}
-use mathlib.Core.Bool.{true, false≢true}
+use mathlib.Core.Bool.{true, false, false≢true}
 use mathlib.Core.List.{List}
 use Prim.Native.Nat.{ℕ, _^_, _≤_, _<_}
 use native.Mathlib.Nat.{lt-of-lt-of-le, le-trans}
@@ -23,7 +23,8 @@ use Rattle.lm_format.proofs.Leaf.{leaf-fits}
 use Rattle.lms.specs.Check.{verifies, typed, good}
 
 module _ (key message signature : List ℕ) where
-  typed-leaf : (o : OneTime) (t : Height) → ((h : ℕ) → t ≡ Levels h → h ≤ 25) → typed o t key message signature ≡ true
+  typed-leaf : (o : OneTime) (t : Height) → ((h : ℕ) → t ≡ Levels h → h ≤ 25)
+      → typed false (λ o h. verifies o h key message signature) o t ≡ true
       → leafNumber (leafOf key signature) < 256 ^ 4
   unfolding typed verifies
   typed-leaf NoType t high e = absurd (false≢true e)

@@ -1,3 +1,5 @@
 mod Answers
+mod Examples
 pub mod Figures
 pub mod Leaves
+pub mod Steps

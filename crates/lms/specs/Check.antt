@@ -1,5 +1,5 @@
--- The signature check (RFC 8554, 5.4.2, algorithms 6 and 6a), and the answer of the service for every input
--- (document 01, "Digest and signature").
+-- The signature check (RFC 8554, 5.4.2, algorithms 6 and 6a), its chain steps (document 02, W7), and the
+-- answer of the service for every input (document 01, "Digest and signature").
 use mathlib.Core.Bool.{Bool, false, cond}
 use mathlib.Core.List.{List}
 use Prim.Native.Nat.{ℕ}
@@ -11,15 +11,21 @@ use Rattle.lm_digits.specs.declared.Parameters.{Parameters}
 use Rattle.lm_digits.specs.declared.OneTime.{OneTime}
 use Rattle.lm_digits.specs.declared.OneTime.the-variants.{Known, Unknown as NoType}
 use Rattle.lm_digits.specs.Parameters.{oneTime}
+use Rattle.lm_digits.specs.Digits.{steps}
 use Rattle.lm_format.specs.declared.Height.{Height}
 use Rattle.lm_format.specs.declared.Height.the-variants.{Levels, Unknown}
 use Rattle.lm_format.specs.Format.{height, keySize, oneTimeBytes, pathAt}
 use Rattle.lm_format.specs.Formed.{formed}
 use Rattle.lm_format.specs.Leaf.{leafOf, leafNumber}
-use Rattle.lm_ots.specs.Candidate.{candidate}
+use Rattle.lm_ots.specs.Candidate.{messageHash, candidate}
 use Rattle.lm_answer.specs.declared.Answer.{Answer}
 use Rattle.lm_answer.specs.declared.Answer.the-variants.{Good, Bad, Long}
 use Rattle.lm_tree.specs.Tree.{root}
+
+-- algorithm 4b, step 3: Q, of the key's I, the signature's q and C, and the message
+unfoldable pub hashOf : List ℕ → List ℕ → List ℕ → List ℕ
+hashOf key message signature =
+    messageHash (take 16 (drop 8 key)) (numberAt 4 signature 0) (take 32 (drop 8 signature)) message
 
 module _ (o : Parameters) (h : ℕ) (key message signature : List ℕ) where
   -- algorithm 6a, steps 2 to 5: Tc
@@ -34,24 +40,38 @@ module _ (o : Parameters) (h : ℕ) (key message signature : List ℕ) where
   unfoldable pub verifies : Bool
   verifies = cond (formed o h key signature) (same rootOf (drop 24 key)) false
 
--- algorithm 6, step 2: the key's types; one that is not listed is bad
-unfoldable pub typed : OneTime → Height → List ℕ → List ℕ → List ℕ → Bool
-typed NoType t key message signature = false
-typed (Known o) Unknown key message signature = false
-typed (Known o) (Levels h) key message signature = verifies o h key message signature
+  -- the chain steps: none where algorithm 6a ends in step 2, and the same whatever the root is
+  unfoldable pub stepsTaken : ℕ
+  stepsTaken = cond (formed o h key signature) (steps o (hashOf key message signature)) 0
 
--- algorithm 6, steps 1 and 2: the key's length
-unfoldable pub good : List ℕ → List ℕ → List ℕ → Bool
-good key message signature =
+-- algorithm 6, step 2: what is asked for the key's types, or what else is given where one is not listed
+unfoldable pub typed : {A : Type 0} → A → (Parameters → ℕ → A) → OneTime → Height → A
+typed other f NoType t = other
+typed other f (Known o) Unknown = other
+typed other f (Known o) (Levels h) = f o h
+
+-- algorithm 6, steps 1 and 2: the same, where the key has its length
+abbrev pub keyed : {A : Type 0} → A → (Parameters → ℕ → A) → List ℕ → A
+keyed other f key =
     cond (eqb (length key) keySize)
-    (typed (oneTime (numberAt 4 key 4)) (height (numberAt 4 key 0)) key message signature)
-    false
+    (typed other f (oneTime (numberAt 4 key 4)) (height (numberAt 4 key 0)))
+    other
 
--- good, with the number of the leaf (document 02, W5), or bad
-unfoldable pub verdict : Bool → List ℕ → List ℕ → Answer
-verdict accepted key signature = cond accepted (Good (leafNumber (leafOf key signature))) Bad
+-- whether a signature is good
+unfoldable pub good : List ℕ → List ℕ → List ℕ → Bool
+good key message signature = keyed false (λ o h. verifies o h key message signature) key
+
+-- the chain steps of its check
+unfoldable pub stepsOf : List ℕ → List ℕ → List ℕ → ℕ
+stepsOf key message signature = keyed 0 (λ o h. stepsTaken o h key message signature) key
+
+-- good, with the number of the leaf (document 02, W5), or bad; with the chain steps (W7)
+unfoldable pub verdict : Bool → List ℕ → List ℕ → ℕ → Answer
+verdict accepted key signature count =
+    cond accepted (Good (leafNumber (leafOf key signature)) count) (Bad count)
 
 -- the service's answer: a long message comes before everything
 unfoldable pub answer : List ℕ → List ℕ → List ℕ → Answer
 answer key message signature =
-    cond (tooLong message) Long (verdict (good key message signature) key signature)
+    cond (tooLong message) Long
+    (verdict (good key message signature) key signature (stepsOf key message signature))

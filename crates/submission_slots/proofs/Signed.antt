@@ -14,7 +14,7 @@ use lib.Seq.{drop-drop}
 use Rattle.refusal.specs.Checks.{every}
 use Rattle.sha256.specs.Service.{limit, tooLong}
 use Rattle.lm_answer.specs.declared.Answer.the-variants.{Good, Bad, Long}
-use Rattle.lms.specs.Check.{good, verdict, answer}
+use Rattle.lms.specs.Check.{good, stepsOf, verdict, answer}
 use Rattle.roster.specs.Roster.{keyOf}
 use Rattle.roster.specs.Masks.{replicasFrom, replicasOf}
 use Rattle.log_chain.specs.Log.{Form}
@@ -27,23 +27,23 @@ use Rattle.submission_slots.specs.Signatures.{goodAll}
 
 -- the check's answer on a message that is not too long says good or bad
 module _ (key message sig : List ℕ) (short : length message ≤ limit) where
-  short-answer : answer key message sig ≡ verdict (good key message sig) key sig
+  short-answer : answer key message sig ≡ verdict (good key message sig) key sig (stepsOf key message sig)
   unfolding answer tooLong
   short-answer = rw (le-ltb _ _ short)
 
-  pub is-good : {leaf : ℕ} → answer key message sig ≡ Good leaf → true ≡ good key message sig
+  pub is-good : {leaf steps : ℕ} → answer key message sig ≡ Good leaf steps → true ≡ good key message sig
   unfolding verdict
-  is-good {leaf} e = go (good key message sig) (sym short-answer ∙ e)
+  is-good {leaf} {steps} e = go (good key message sig) (sym short-answer ∙ e)
     where
-      go : (b : Bool) → verdict b key sig ≡ Good leaf → true ≡ b
+      go : (b : Bool) → verdict b key sig (stepsOf key message sig) ≡ Good leaf steps → true ≡ b
       go true e = refl
       go false e = let z : _≡_ {A = ℕ} 0 1 = cc in absurd (omega arith)
 
-  pub is-bad : answer key message sig ≡ Bad → false ≡ good key message sig
+  pub is-bad : {steps : ℕ} → answer key message sig ≡ Bad steps → false ≡ good key message sig
   unfolding verdict
-  is-bad e = go (good key message sig) (sym short-answer ∙ e)
+  is-bad {steps} e = go (good key message sig) (sym short-answer ∙ e)
     where
-      go : (b : Bool) → verdict b key sig ≡ Bad → false ≡ b
+      go : (b : Bool) → verdict b key sig (stepsOf key message sig) ≡ Bad steps → false ≡ b
       go true e = let z : _≡_ {A = ℕ} 0 1 = cc in absurd (omega arith)
       go false e = refl
 
@@ -51,7 +51,7 @@ module _ (key message sig : List ℕ) (short : length message ≤ limit) where
   unfolding verdict
   not-long e = go (good key message sig) (sym short-answer ∙ e)
     where
-      go : (b : Bool) → verdict b key sig ≡ Long → ⊥
+      go : (b : Bool) → verdict b key sig (stepsOf key message sig) ≡ Long → ⊥
       go true e = let z : _≡_ {A = ℕ} 0 1 = cc in omega arith
       go false e = let z : _≡_ {A = ℕ} 0 1 = cc in omega arith
 

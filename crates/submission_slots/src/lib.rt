@@ -18,8 +18,8 @@ pub fn signature_genuine(roster: &[u8], k: usize, message: &[u8], signature: &[u
         (now (signature .entry)) ⌝ }
 {
     match lms::check(roster::key_of(roster, k), message, signature) {
-        Answer::Good(_) => true,
-        Answer::Bad => false,
+        Answer::Good(_, _) => true,
+        Answer::Bad(_) => false,
         Answer::Long => false,
     }
 }

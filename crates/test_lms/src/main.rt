@@ -1,7 +1,8 @@
 // Prints for each line of two files of published LMS vectors (RFC 8554; document 01, "Conditions of
-// acceptance"), in the files' order, whether its signature is good: 1 and the number of its leaf, or 0. A
-// line of a file is a name, 1 or 0, the key, the message and the signature. The second is not read here: the
-// file `stdout` has them, each 1 with the number in the first four bytes of the signature.
+// acceptance"), in the files' order, whether its signature is good, 1 and the number of its leaf, or 0; and
+// the chain steps (document 02, W7). A line of a file is a name, 1 or 0, the key, the message and the
+// signature. The second is not read here: the file `stdout` has them, each 1 with the number in the first
+// four bytes of the signature, and the steps that the separately written auditor counts.
 use libc::STDOUT_FILENO;
 use lm_answer::Answer;
 ghost use Rattle.io.specs.Counts.{Counts};
@@ -12,13 +13,17 @@ const TEXT_SIZE: usize = 524288;
 // Prints an answer as a line.
 fn print_answer(answer: Answer) {
     match answer {
-        Answer::Good(leaf) => {
+        Answer::Good(leaf, steps) => {
             io::write_all(STDOUT_FILENO, b"1 ");
             io::print_decimal(STDOUT_FILENO, leaf as u64);
+            io::write_all(STDOUT_FILENO, b" ");
+            io::print_decimal(STDOUT_FILENO, steps as u64);
             io::write_all(STDOUT_FILENO, b"\n");
         }
-        Answer::Bad => {
-            io::write_all(STDOUT_FILENO, b"0\n");
+        Answer::Bad(steps) => {
+            io::write_all(STDOUT_FILENO, b"0 ");
+            io::print_decimal(STDOUT_FILENO, steps as u64);
+            io::write_all(STDOUT_FILENO, b"\n");
         }
         Answer::Long => {
             io::write_all(STDOUT_FILENO, b"long\n");

@@ -2,8 +2,9 @@
 // service no longer has, or that says less, is refused here. Nothing calls these functions.
 ghost use mathlib.Core.Path.{_≡_};
 ghost use Rattle.sha256.specs.Service.{digestNumber, digestAfter};
-ghost use Rattle.lm_answer.specs.Number.{answerNumber, answerLeaf};
+ghost use Rattle.lm_answer.specs.Number.{answerNumber, answerLeaf, answerSteps};
 ghost use Rattle.lms.specs.Check.{answer};
+ghost use Rattle.lms.specs.Steps.{StepsCounted};
 ghost use Rattle.report.specs.Report.{auditNumber, reportAfter};
 ghost use Rattle.report.specs.Claims.{Naming, Fairness};
 ghost use Rattle.district.specs.District.{districtNumber, districtAfter};
@@ -25,6 +26,10 @@ pub fn lms_check(key: &[u8], message: &[u8], signature: &[u8]) -> LmsAnswer
         ≡ answerNumber (answer (now (key .entry)) (now (message .entry)) (now (signature .entry))) ⌝ }
     ensures leaf { λ r. ⌜ r .leaf
         ≡ answerLeaf (answer (now (key .entry)) (now (message .entry)) (now (signature .entry))) ⌝ }
+    ensures steps { λ r. ⌜ r .steps
+        ≡ answerSteps (answer (now (key .entry)) (now (message .entry)) (now (signature .entry))) ⌝ }
+    ensures counted { λ r. ⌜ StepsCounted (now (key .entry)) (now (message .entry)) (now (signature .entry))
+        (r .steps) ⌝ }
 {
     hirelog::hirelog_lms_check(key, message, signature)
 }

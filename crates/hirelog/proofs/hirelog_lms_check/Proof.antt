@@ -1,7 +1,8 @@
--- The number and the leaf of the check's answer.
+-- The number, the leaf and the chain steps of the check's answer, of which the claim on the steps holds.
 -- Assumes nothing.
 use mathlib.Core.Path.{ap, _∙_}
-use Rattle.lm_answer.specs.Number.{answerNumber, answerLeaf}
+use Rattle.lm_answer.specs.Number.{answerNumber, answerLeaf, answerSteps}
+use Rattle.lms.proofs.Steps.{steps-counted}
 use borrow.Author.Needs.{needs}
 use Rattle.hirelog.proofs.hirelog_lms_check.Statement.{statement}
 use Rattle.hirelog.proofs.hirelog_lms_check.Tie as tie
@@ -14,8 +15,11 @@ exported-requires c κs = search needs
 
 returns : tie.Need-returns
 returns c =
+    let a = c .before .before .before .before .before .args in
     let e = c .before .check .ensures in
-    (c .exported .ensures .0 ∙ ap answerNumber e, c .exported .ensures .1 ∙ ap answerLeaf e)
+    let told = c .exported .ensures in
+    let count = told .1 .1 ∙ ap answerSteps e in
+    (told .0 ∙ ap answerNumber e, (told .1 .0 ∙ ap answerLeaf e, (count, rw count (steps-counted (a .key .now) (a .message .now) (a .signature .now)))))
 
 pub hirelog-lms-check-spec : {M : Type 1} → statement M
 hirelog-lms-check-spec = tie.close (tie.spec check-requires exported-requires returns)

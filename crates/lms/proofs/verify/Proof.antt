@@ -36,7 +36,7 @@ module _ (c : tie.After-matches) where
   well-formed = sym (c .before .before .before .signature-formed .ensures) ∙ not-false _ (c .before .before .if1 .left)
 
   by-root : c .matches .result ≡ same (rootOf (start .args .o) (start .args .h) key message sig) (drop 24 key)
-  by-root = c .matches .ensures ∙ ap (λ (l : List ℕ). same l (drop 24 key)) (c .before .root-of .ensures)
+  by-root = c .matches .ensures ∙ ap (λ (l : List ℕ). same l (drop 24 key)) (c .before .root-of .ensures .0)
 
 -- ---- the needs
 
@@ -63,7 +63,7 @@ returns-2 : tie.Need-returns-2
 returns-2 c =
     let b = c .before in
     let a = start b .args in
-    other-root (a .o) (a .h) (key b) (message b) (sig b) (well-formed b) (sym (by-root b) ∙ not-true _ (c .if2 .taken))
+    other-root (a .o) (a .h) (key b) (message b) (sig b) (well-formed b) (b .before .root-of .ensures .1) (sym (by-root b) ∙ not-true _ (c .if2 .taken))
 
 u32-at-requires : tie.Need-u32-at-requires
 unfolding signatureLength pathAt
@@ -76,7 +76,7 @@ returns-3 : tie.Need-returns-3
 returns-3 c =
     let b = c .before .before in
     let a = start b .args in
-    same-root (a .o) (a .h) (key b) (message b) (sig b) (well-formed b) (sym (by-root b) ∙ not-false _ (c .before .if2 .left))
+    same-root (a .o) (a .h) (key b) (message b) (sig b) (well-formed b) (b .before .root-of .ensures .1) (sym (by-root b) ∙ not-false _ (c .before .if2 .left))
     (c .u32-at .ensures .0 ∙ leaf-number (key b) (sig b))
 
 pub verify-spec : {M : Type 1} → statement M

@@ -1,17 +1,17 @@
--- The hashes of algorithm 4b, step 3, one after the other.
+-- The hashes of algorithm 4b, step 3, one after the other; the steps are the sum over all digits.
 -- Assumes nothing.
 use Prim.Native.Nat.{ℕ, _-_, _*_}
 use mathlib.Core.Path.{_≡_, ap, _∙_}
-use mathlib.Core.List.{List, _++_}
+use mathlib.Core.List.{List}
 use native.Mathlib.Omega.{arith}
 use lib.Dec.{lit<}
 use lib.ListN.{length, take, drop, length-take, length-drop}
 use Rattle.words.proofs.Laws.{part-end}
 use Rattle.lm_hash.specs.Identifier.{identifier}
 use Rattle.lm_hash.specs.Tagged.{tagged}
-use Rattle.lm_digits.specs.Digits.{withChecksum}
-use Rattle.lm_ots.specs.Candidate.{D-MESG, D-PBLC, ends, candidate}
-use Rattle.lm_ots.proofs.Rows.{width, few, shift-below}
+use Rattle.lm_digits.specs.Digits.{sum, withChecksum, steps}
+use Rattle.lm_ots.specs.Candidate.{D-MESG, D-PBLC, messageHash, ends, candidate}
+use Rattle.lm_ots.proofs.Rows.{width, few, shift-below, digit-place}
 use borrow.Author.Needs.{needs}
 use Rattle.lm_ots.proofs.candidate.candidate.Statement.{statement}
 use Rattle.lm_ots.proofs.candidate.candidate.Tie as tie
@@ -52,23 +52,38 @@ tagged-requires c κs =
     let start = c .before .before .before .before .before .before .before .before .before .before .before .before .before in
     (lit< tt, simp length-take (omega (arith, few (start .args .o) (start .pre .0))))
 
+checked-long : (c : tie.After-with-checksum) → length (c .with-checksum .result) ≡ 34
+checked-long c = search needs
+
+digit-sum-requires : tie.Need-digit-sum-requires
+digit-sum-requires c κs =
+    let checked = c .before .before .before .before .before .before .before .before .before in
+    let start = checked .before .before .before .before .before .before in
+    let o = start .args .o in
+    let l = start .pre .0 in
+    (width o l, omega (arith, few o l), λ i h. rw (checked-long checked) (digit-place o l i (omega (arith, h))))
+
 returns : tie.Need-returns
-unfolding candidate D-MESG D-PBLC
+unfolding candidate messageHash D-MESG D-PBLC steps
 returns c =
-    let start = c .before .before .before .before .before .before .before .before .before .before .before .before .before .before in
+    let ended = c .before .before .before .before .before .before in
+    let checked = ended .before .before .before .before in
+    let start = checked .before .before .before .before .before .before in
     let o = start .args .o in
     let leaf = start .args .leaf in
     let sig = start .args .signature .now in
     let message = start .args .message .now in
     let I = identifier leaf in
-    let Q = tagged I (leaf .q) D-MESG (take 32 sig ++ message) in
-    let s : c .before .before .before .before .before .before .before .before .with-checksum .result ≡ withChecksum o Q =
-    c .before .before .before .before .before .before .before .before .with-checksum .ensures ∙ ap (withChecksum o) (c .before .before .before .before .before .before .before .before .before .bytes .ensures ∙ c .before .before .before .before .before .before .before .before .before .before .tagged-message .ensures) in
-    let all : take (32 * o .chains) (c .before .before .before .before .put-ends .last .1 .1 .1 .1 .0) ≡ ends o I (leaf .q) (withChecksum o Q) (drop 32 sig) (o .chains) =
-    c .before .before .before .before .put-ends .ensures
-    ∙ ap (λ (y : List ℕ). ends o I (leaf .q) (c .before .before .before .before .before .before .before .before .with-checksum .result) y (o .chains)) (part-end sig 32)
-    ∙ ap (λ (d : List ℕ). ends o I (leaf .q) d (drop 32 sig) (o .chains)) s in
-    c .tagged .ensures ∙ ap (tagged I (leaf .q) D-PBLC) all
+    let Q = messageHash I (leaf .q) (take 32 sig) message in
+    let s : checked .with-checksum .result ≡ withChecksum o Q =
+    checked .with-checksum .ensures ∙ ap (withChecksum o) (checked .before .bytes .ensures ∙ checked .before .before .tagged-message .ensures) in
+    let all : take (32 * o .chains) (ended .put-ends .last .1 .1 .1 .1 .0) ≡ ends o I (leaf .q) (withChecksum o Q) (drop 32 sig) (o .chains) =
+    ended .put-ends .ensures
+    ∙ ap (λ (y : List ℕ). ends o I (leaf .q) (checked .with-checksum .result) y (o .chains)) (part-end sig 32)
+    ∙ ap (λ (d : List ℕ). ends o I (leaf .q) d (drop 32 sig) (o .chains)) s in (
+      c .before .before .tagged .ensures ∙ ap (tagged I (leaf .q) D-PBLC) all,
+      c .digit-sum .ensures ∙ ap (λ (d : List ℕ). sum (o .bits) d (o .chains)) s,
+    )
 
 pub candidate-spec : {M : Type 1} → statement M
 candidate-spec =
@@ -88,4 +103,6 @@ candidate-spec =
     array-share-prefix-ends
     slice-aggregate-tagged
     tagged-requires
+    (λ c. search needs)
+    digit-sum-requires
     returns)
