@@ -92,18 +92,22 @@ extern "C" {
 uint32_t hirelog_sha256(const uint8_t *message, size_t message_len,
                         uint8_t digest[HIRELOG_DIGEST_SIZE]);
 
-/* What the signature check returns. */
+/*
+ * What the signature check returns. With document 02's W7 it has grown from 8 bytes to 12, by its
+ * last member: build callers anew.
+ */
 struct hirelog_lms_answer {
     uint32_t number; /* HIRELOG_OK, HIRELOG_BAD_SIGNATURE or HIRELOG_LONG_MESSAGE */
     uint32_t leaf;   /* the leaf's number, from 0 on; 0 with any number but HIRELOG_OK */
+    uint32_t steps;  /* the chain steps, of a bad signature too; 0 if the check ended before them */
 };
 
 /*
  * Whether an LMS signature (RFC 8554, algorithm 6) of the first message_len bytes at message is
- * good for a public key, and with which of the key's leaves it was made. Key and signature are those
- * of LMS itself, not of HSS.
+ * good for a public key, with which of the key's leaves it was made, and how many chain steps the
+ * check takes. Key and signature are those of LMS itself, not of HSS.
  *
- * Returns, by value, a number and a leaf. The number is
+ * Returns, by value, a number, a leaf and a count of steps. The number is
  *   HIRELOG_LONG_MESSAGE   if message_len is above HIRELOG_MESSAGE_MAX, whatever the key and the
  *                          signature are;
  *   HIRELOG_OK             else, if the signature is good: algorithm 6 accepts it;
@@ -121,7 +125,16 @@ struct hirelog_lms_answer {
  *   - signature_len is not the length that these types give, to the byte;
  *   - its leaf number is not one of the tree's, below 2 to the power of the height;
  *   - or what is computed from the message and the signature is not the key's root.
- * Which of these it was is not told apart.
+ * Steps of 0 tell the first five from the last; which of the five it was is not told apart.
+ *
+ * A step (document 02, W7) is one hash in a chain of the one-time signature (RFC 8554, 4.6,
+ * algorithm 4b, step 3): with digits of width w a chain leads from its digit to 2^w - 1. The hashes
+ * of the message, of the one-time public key and of the tree are not counted. With
+ * HIRELOG_LONG_MESSAGE, and where the signature is bad for one of those five reasons, no chain is
+ * begun, and steps is 0. Else it is the count of all chains, of a bad signature too: that it is bad
+ * shows after them. It is then above 0, and at most the number of chains times 2^w - 1: 265, 399,
+ * 1,005 and 8,670 for one-time types 1 to 4. For type 4 it is 510 plus 255 for each whole 256 in
+ * the checksum (RFC 8554, 4.4), from 510 to 8,415.
  *
  * The caller sees to it that
  *   - key points to key_len readable bytes, message to message_len and signature to signature_len;
