@@ -1,8 +1,8 @@
 //! A safe wrapper of libhirelog.a: its services over slices, with plain values as answers.
 //!
 //! `include/hirelog.h` has each service's rules, and document 01 what they mean; document 02 for a
-//! district's run (W1), for the assembling of a submission (W3), for leaves (W5) and for the order in
-//! which a charge is chosen (W6).
+//! district's run (W1), for the assembling of a submission (W3), for leaves (W5), for the order in
+//! which a charge is chosen (W6) and for chain steps (W7).
 
 mod assemble;
 mod district;
@@ -25,16 +25,26 @@ pub use submission::{
 /// The longest message, in bytes, that is given a digest or has its signature checked.
 pub const MESSAGE_MAX: usize = 16_777_216;
 
-/// What a signature check says.
+/// What a signature check says, with its count of chain steps.
 #[derive(Clone, Copy, Debug, PartialEq, Eq)]
 pub enum Verdict {
     /// Made with this leaf of the key, a number from 0 on. A leaf is for one message.
-    Good {
-        leaf: u32,
-    },
-    Bad,
+    Good { leaf: u32, steps: u32 },
+    /// With 0 steps a length, a type or the leaf number is wrong; with more the form is right, and
+    /// what message, key and signature hold does not go together.
+    Bad { steps: u32 },
     /// The message is longer than `MESSAGE_MAX`: neither good nor bad.
     LongMessage,
+}
+
+impl Verdict {
+    /// The hashes in the signature's chains (RFC 8554, 4.6); 0 if the check ended before them.
+    pub fn steps(self) -> u32 {
+        match self {
+            Verdict::Good { steps, .. } | Verdict::Bad { steps } => steps,
+            Verdict::LongMessage => 0,
+        }
+    }
 }
 
 /// SHA-256 of the message; nothing if it is longer than `MESSAGE_MAX`.
@@ -45,8 +55,8 @@ pub fn sha256(message: &[u8]) -> Option<[u8; 32]> {
     (number == sys::OK).then_some(digest)
 }
 
-/// Whether an LMS signature (RFC 8554) of the message is good for the key, and with which leaf it
-/// was made.
+/// Whether an LMS signature (RFC 8554) of the message is good for the key, with which leaf it was
+/// made, and how many chain steps the check takes.
 pub fn lms_check(key: &[u8], message: &[u8], signature: &[u8]) -> Verdict {
     // SAFETY: each pointer is a slice's, with the slice's length.
     let answer = unsafe {
@@ -60,9 +70,9 @@ pub fn lms_check(key: &[u8], message: &[u8], signature: &[u8]) -> Verdict {
         )
     };
     match answer.number {
-        sys::OK => Verdict::Good { leaf: answer.leaf },
+        sys::OK => Verdict::Good { leaf: answer.leaf, steps: answer.steps },
         sys::LONG_MESSAGE => Verdict::LongMessage,
-        _ => Verdict::Bad,
+        _ => Verdict::Bad { steps: answer.steps },
     }
 }
 

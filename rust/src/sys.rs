@@ -24,6 +24,8 @@ pub struct LmsAnswer {
     pub number: u32,
     /// The number of a good signature's leaf, from 0 on; 0 with any number but 0.
     pub leaf: u32,
+    /// The chain steps, of a bad signature too; 0 if the check ended before them.
+    pub steps: u32,
 }
 
 /// What a call returns that writes bytes whose length the caller does not know beforehand: struct

@@ -1,10 +1,12 @@
 //! The services on the repository's samples and on known values.
 
 mod pairs;
+mod steps;
 
 use hirelog::{audit, audit_into, lms_check, sha256, Place, Refusal, Refused, Verdict};
 use pairs::PAIRS;
 use std::{fs, path::Path};
+use steps::steps;
 
 fn sample(name: &str, file: &str) -> Vec<u8> {
     let path = Path::new(env!("CARGO_MANIFEST_DIR")).join("../samples").join(name).join(file);
@@ -63,16 +65,21 @@ fn digests() {
 }
 
 /// A bad signature, a good one (replica 1's vote in a sample) with its leaf, and a message that is
-/// too long.
+/// too long; each with its steps.
 #[test]
 fn checks() {
-    assert_eq!(lms_check(&[], &[], &[]), Verdict::Bad);
-    assert_eq!(lms_check(&[], &vec![0; hirelog::MESSAGE_MAX + 1], &[]), Verdict::LongMessage);
+    assert_eq!(lms_check(&[], &[], &[]), Verdict::Bad { steps: 0 });
+    let long = lms_check(&[], &vec![0; hirelog::MESSAGE_MAX + 1], &[]);
+    assert_eq!((long, long.steps()), (Verdict::LongMessage, 0));
     let (roster, first) = (sample("one_leader", "roster"), sample("one_leader", "first"));
     let key = &roster[18..18 + 56];
     let (vote, signature) = (&first[36..36 + 46], &first[36 + 48..36 + 48 + 1292]);
     let statement = [&[3], &roster[..16], vote].concat();
     let leaf = u32::from_be_bytes(signature[..4].try_into().expect("four bytes"));
-    assert_eq!(lms_check(key, &statement, signature), Verdict::Good { leaf });
-    assert_eq!(lms_check(key, &statement[..62], signature), Verdict::Bad);
+    let good = Verdict::Good { leaf, steps: steps(key, &statement, signature) };
+    assert_eq!(lms_check(key, &statement, signature), good);
+    assert_eq!(good.steps(), steps(key, &statement, signature));
+    let bad = Verdict::Bad { steps: steps(key, &statement[..62], signature) };
+    assert_eq!(lms_check(key, &statement[..62], signature), bad);
+    assert_eq!(lms_check(key, &statement, &signature[1..]), Verdict::Bad { steps: 0 });
 }

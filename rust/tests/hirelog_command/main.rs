@@ -13,6 +13,8 @@ mod files;
 mod json;
 #[path = "../pairs/mod.rs"]
 mod pairs;
+#[path = "../steps/mod.rs"]
+mod steps;
 mod usage;
 
 use pairs::PAIRS;

@@ -98,7 +98,8 @@ fn standard_input() {
 #[test]
 fn help() {
     let audit = ["hirelog audit [--explain] [--json] FOLDER", "[--json] ROSTER FIRST SECOND"];
-    let check = ["hirelog check [--explain] [--json] KEY MESSAGE SIGNATURE", "good", "bad"];
+    let check =
+        ["hirelog check [--explain] [--json] KEY MESSAGE SIGNATURE", "good", "bad", "steps N"];
     let digest = ["hirelog sha256 [--explain] [--json] FILE"];
     let district = ["hirelog district [--explain] [--json] FOLDER", "[--json] ROSTER FILE.."];
     let assemble = ["hirelog assemble [--explain] [--json] FOLDER -o", "ROSTER LOG ITEMS -o FILE"];

@@ -1,7 +1,8 @@
 //! hirelog check: an LMS signature (RFC 8554) of a message under a key.
 
 use crate::answer::{Answer, Failure, RefusedFile, Remark, Status};
-use crate::files::{read_all, Input};
+use crate::audit::joined;
+use crate::files::{counted, read_all, Input};
 use crate::formats::{looks_like_roster, KEY_SIZE};
 use crate::usage::{wrong_count, Command, Run};
 use crate::{hints, json};
@@ -16,12 +17,19 @@ pub const COMMAND: Command = Command {
     help: "\
 Checks an LMS signature (RFC 8554). KEY has the 56 bytes of a public key (in a
 roster, the key of board k begins after 18 + 56 x (k - 1) bytes), MESSAGE what
-was signed, SIGNATURE the signature. It prints one line:
+was signed, SIGNATURE the signature. It prints two lines. The first is one of
 
   good leaf Q   the signature is good for this key and this message, and was
                 made with the key's leaf Q, a number from 0 on
   bad           it is not; also where a length or a type is wrong
   long message  neither: the message has more than 16,777,216 bytes
+
+and the second
+
+  steps N       how many hashes the check makes in the signature's chains, by
+                which its time goes. It makes them for a bad signature too,
+                unless a length, a type or the leaf number is wrong: N is then
+                0, as with a long message
 
 A leaf is for one message: a board whose good signatures on two messages have
 one Q under one key has used it twice. hirelog audit looks for that.
@@ -46,33 +54,39 @@ fn run(operands: &[PathBuf]) -> Result<Answer, Failure> {
     let [key, message, signature] = &files;
     let verdict = lms_check(&key.bytes, &message.bytes, &signature.bytes);
     let (number, answer, leaf) = match verdict {
-        Verdict::Good { leaf } => (sys::OK, "good", Some(leaf)),
-        Verdict::Bad => (Refusal::Signature.number().into(), "bad", None),
+        Verdict::Good { leaf, .. } => (sys::OK, "good", Some(leaf)),
+        Verdict::Bad { .. } => (Refusal::Signature.number().into(), "bad", None),
         Verdict::LongMessage => (sys::LONG_MESSAGE, "long message", None),
     };
     let row = Number::of(number).expect("a row for each number");
-    let line = leaf.map_or(answer.into(), |leaf| format!("{answer} leaf {leaf}"));
-    let remark = remark(verdict, &line, row);
+    let lines = [
+        leaf.map_or(answer.into(), |leaf| format!("{answer} leaf {leaf}")),
+        format!("steps {}", verdict.steps()),
+    ];
     Ok(Answer {
         status: if number == sys::OK { Status::NothingFound } else { Status::Refused },
-        lines: format!("{line}\n").into_bytes(),
+        lines: joined(&lines),
         members: vec![
             ("number", number.to_string()),
             ("word", json::string(row.word)),
             ("answer", json::string(answer)),
             ("leaf", leaf.map_or("null".into(), |leaf| leaf.to_string())),
+            ("steps", verdict.steps().to_string()),
             ("files", json::files(FILES, &files)),
         ],
         refused: refused(verdict, &files, row).into_iter().collect(),
-        hints: if verdict == Verdict::Bad { bad_hints(&files) } else { Vec::new() },
-        remarks: vec![remark],
+        hints: match verdict {
+            Verdict::Bad { .. } => bad_hints(&files),
+            _ => Vec::new(),
+        },
+        remarks: vec![remark(verdict, &lines[0], row), steps_remark(verdict, &lines[1])],
     })
 }
 
-/// What the line says.
+/// What the first line says.
 fn remark(verdict: Verdict, line: &str, row: &Number) -> Remark {
     let (meaning, advice) = match verdict {
-        Verdict::Good { leaf } => (
+        Verdict::Good { leaf, .. } => (
             format!(
                 "The signature was made with this key, with leaf {leaf} of it, for this very message."
             ),
@@ -82,7 +96,7 @@ fn remark(verdict: Verdict, line: &str, row: &Number) -> Remark {
                  submissions."
             ),
         ),
-        Verdict::Bad => (
+        Verdict::Bad { .. } => (
             "The signature was not made with this key for this message, or one of the three was \
              changed since."
                 .into(),
@@ -95,6 +109,36 @@ fn remark(verdict: Verdict, line: &str, row: &Number) -> Remark {
     Remark { line: line.into(), meaning, advice }
 }
 
+/// What the count of steps says: of a bad signature, whether its form is right.
+fn steps_remark(verdict: Verdict, line: &str) -> Remark {
+    let taken = format!(
+        "The check took {} in the signature's chains, each a hash.",
+        counted(verdict.steps() as usize, "step")
+    );
+    let (meaning, advice) = match verdict {
+        Verdict::Good { .. } => {
+            (taken, "Nothing. It is for planning: the time of a check goes by it.".into())
+        }
+        Verdict::Bad { steps: 0 } => (
+            "The check ended before the signature's chains: the length of key or signature, a type \
+             or the leaf number is wrong."
+                .into(),
+            "Look at the key and the signature: no message makes this one good under this key."
+                .into(),
+        ),
+        Verdict::Bad { .. } => (
+            format!("{taken} So the form is right: lengths and types, and the key has that leaf."),
+            "Look at what the files hold: the message is another, or the key, or a byte was changed."
+                .into(),
+        ),
+        Verdict::LongMessage => (
+            "The check ended before the signature's chains, for the message is too long.".into(),
+            "Nothing besides.".into(),
+        ),
+    };
+    Remark { line: line.into(), meaning, advice }
+}
+
 /// Which files do not go together, and why.
 fn refused(
     verdict: Verdict,
@@ -103,7 +147,7 @@ fn refused(
 ) -> Option<RefusedFile> {
     match verdict {
         Verdict::Good { .. } => None,
-        Verdict::Bad => {
+        Verdict::Bad { .. } => {
             let told = format!(
                 "bad: {} is no good signature of {} under the key {}: number {}, {}",
                 signature.name(),
