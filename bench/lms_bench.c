@@ -2,9 +2,9 @@
  * Measures hirelog_lms_check beside portable C and OpenSSL:  lms_bench ROUNDS VECTORS...
  *
  * lms_vectors.h has the form of a vector file. First all implementations check every signature of
- * the files; an answer other than the file's is an error, and nothing is measured. OpenSSL has no
- * LMS: its rows are portable C's check over OpenSSL's SHA-256, without SHA instructions in a child
- * (child.h).
+ * the files; an answer other than the file's is an error, and so is another count of chain steps
+ * than portable C takes: nothing is measured then. OpenSSL has no LMS: its rows are portable C's
+ * check over OpenSSL's SHA-256, without SHA instructions in a child (child.h).
  *
  * Measured is the check of the files' first good signature of height 5 and digit width 8. In each
  * round every implementation checks it once, one after the other, on one processor; the least time
@@ -26,6 +26,7 @@
 
 typedef int check_function(const struct lms_vector *vector);
 
+static uint32_t steps;                    /* of the last check by ours */
 static struct portable_lms_blocks blocks; /* of the last check by the portable implementation */
 
 static struct lms_vector measured;
@@ -45,6 +46,7 @@ static int ours(const struct lms_vector *v)
 {
     struct hirelog_lms_answer answer = hirelog_lms_check(
         v->key, v->key_len, v->message, v->message_len, v->signature, v->signature_len);
+    steps = answer.steps;
     return answer.number == HIRELOG_OK;
 }
 
@@ -81,6 +83,8 @@ static void try_vector(const struct lms_vector *vector)
         stop("a wrong answer of hirelog_lms_check to ", vector->name);
     if (portable(vector) != vector->good)
         stop("a wrong answer of portable C to ", vector->name);
+    if (steps != blocks.chains) /* a block for each step */
+        stop("another count of steps than portable C's for ", vector->name);
     if (openssl(vector) != vector->good)
         stop("a wrong answer over OpenSSL to ", vector->name);
     if (vector->good && measured.name[0] == '\0' && memcmp(vector->key, types, 8) == 0)
@@ -168,13 +172,17 @@ int main(int argc, char **argv)
                                     cpu_has_sha() ? "OpenSSL, SHA instructions" : "OpenSSL",
                                     "OpenSSL without them"};
     printf("Check of %s: height 5, digit width 8. Best of %d rounds.\n", measured.name, rounds);
-    printf("Blocks of SHA-256: %" PRIu64 " (message %" PRIu64 ", chains %" PRIu64
-           ", public key %" PRIu64 ", tree %" PRIu64 ").\n\n",
-           count, blocks.message, blocks.chains, blocks.public_key, blocks.tree);
-    printf("%-42s %10s %10s %10s\n", "", "us/check", "ns/block", "ours/this");
-    for (int i = 0; i < ALL; i++)
-        printf("%-42s %10.1f %10.1f %10.2f\n", names[i], best[i] / 1e3, best[i] / (double)count,
-               best[OURS] / best[i]);
+    printf("Chain steps: %" PRIu32 ". Blocks of SHA-256: %" PRIu64 " (message %" PRIu64
+           ", chains %" PRIu64 ", public key %" PRIu64 ", tree %" PRIu64 ").\n\n",
+           steps, count, blocks.message, blocks.chains, blocks.public_key, blocks.tree);
+    printf("%-42s %10s %10s %10s %10s\n", "", "us/check", "ns/step", "ns/block", "ours/this");
+    for (int i = 0; i < ALL; i++) {
+        char per_step[24] = ""; /* scalar is no check, and has no steps */
+        if (i != SCALAR)
+            snprintf(per_step, sizeof per_step, "%.1f", best[i] / steps);
+        printf("%-42s %10.1f %10s %10.1f %10.2f\n", names[i], best[i] / 1e3, per_step,
+               best[i] / (double)count, best[OURS] / best[i]);
+    }
     printf("\nratio to portable C: signature check %.2f\n", best[OURS] / best[PORTABLE]);
     printf("ratio to as many blocks by hirelog_sha256 (scalar): %.2f\n", best[OURS] / best[SCALAR]);
     return 0;
