@@ -1,6 +1,9 @@
 //! LMS signatures (RFC 8554) over SHA-256 with n = m = 32: parameters and the check.
 
+pub mod distances;
 pub mod sign;
+#[cfg(test)]
+mod tests;
 
 use crate::numbers::{ACCEPTED, LONG_MESSAGE, SIGNATURE};
 use crate::sha256::{sha256, sha256_of_one_block, Digest, ONE_BLOCK};
@@ -68,12 +71,17 @@ pub fn signature_length(one_time: &OneTimeType, tree: &TreeType) -> usize {
     12 + N * (one_time.p + 1) + N * tree.h as usize
 }
 
-/// What a check says.
+/// What a check says, and how many chain steps it took (document 02, W7).
 #[derive(Clone, Copy, Debug, PartialEq)]
 pub enum Verdict {
     /// With the number of the leaf that has signed (document 02, W5).
-    Good(u32),
-    Bad,
+    Good {
+        leaf: u32,
+        steps: u32,
+    },
+    Bad {
+        steps: u32,
+    },
     Long,
 }
 
@@ -81,47 +89,67 @@ impl Verdict {
     /// The number that the library has for it (document 01, What stops an audit).
     pub fn number(self) -> u8 {
         match self {
-            Verdict::Good(_) => ACCEPTED,
-            Verdict::Bad => SIGNATURE,
+            Verdict::Good { .. } => ACCEPTED,
+            Verdict::Bad { .. } => SIGNATURE,
             Verdict::Long => LONG_MESSAGE,
+        }
+    }
+
+    /// The leaf that has signed, if the signature is good.
+    pub fn good(self) -> Option<u32> {
+        match self {
+            Verdict::Good { leaf, .. } => Some(leaf),
+            Verdict::Bad { .. } | Verdict::Long => None,
         }
     }
 
     /// The leaf of a good signature; 0 otherwise.
     pub fn leaf(self) -> u32 {
+        self.good().unwrap_or(0)
+    }
+
+    /// How often the check called the chain's hash: never for a message that is too long.
+    pub fn steps(self) -> u32 {
         match self {
-            Verdict::Good(leaf) => leaf,
-            Verdict::Bad | Verdict::Long => 0,
+            Verdict::Good { steps, .. } | Verdict::Bad { steps } => steps,
+            Verdict::Long => 0,
         }
     }
 }
 
-/// Whether the signature is the key's for the message, and by which leaf.
+/// Whether the signature is the key's for the message, and by which leaf: RFC 8554, 5.4.2,
+/// algorithm 6.
 pub fn check(key: &[u8], message: &[u8], signature: &[u8]) -> Verdict {
     if message.len() > MESSAGE_LIMIT {
         return Verdict::Long;
     }
-    match verify(key, message, signature) {
-        Some(leaf) => Verdict::Good(leaf),
-        None => Verdict::Bad,
-    }
-}
-
-/// RFC 8554, 5.4.2, algorithm 6: the leaf number of a signature for which it returns VALID.
-fn verify(key: &[u8], message: &[u8], signature: &[u8]) -> Option<u32> {
-    let (leaf, candidate) = led_to(key, message, signature)?;
+    let Some(Led { leaf, root, steps }) = led_to(key, message, signature) else {
+        return Verdict::Bad { steps: 0 };
+    };
     // Step 4: the candidate root is the key's.
-    let root: Digest = array_at(key, 24)?;
-    (candidate == root).then_some(leaf)
+    match array_at(key, 24) == Some(root) {
+        true => Verdict::Good { leaf, steps },
+        false => Verdict::Bad { steps },
+    }
 }
 
 /// The root that a signature leads to, to which the key's root is nothing.
 pub fn candidate(key: &[u8], message: &[u8], signature: &[u8]) -> Option<Digest> {
-    led_to(key, message, signature).map(|(_, root)| root)
+    led_to(key, message, signature).map(|led| led.root)
 }
 
-/// The same algorithm's steps 1 to 3: the leaf number and the candidate root.
-fn led_to(key: &[u8], message: &[u8], signature: &[u8]) -> Option<(u32, Digest)> {
+/// What a signature of the right form leads to.
+struct Led {
+    leaf: u32,
+    /// The candidate root.
+    root: Digest,
+    /// The calls of the chain's hash.
+    steps: u32,
+}
+
+/// The same algorithm's steps 1 to 3. What is not of the right form leads to nothing, and that is
+/// seen before anything is hashed.
+fn led_to(key: &[u8], message: &[u8], signature: &[u8]) -> Option<Led> {
     // Steps 1 and 2: the parts of the key, and its exact length.
     let tree = tree_type(u32_at(key, 0)?)?;
     let one_time = one_time_type(u32_at(key, 4)?)?;
@@ -133,14 +161,14 @@ fn led_to(key: &[u8], message: &[u8], signature: &[u8]) -> Option<(u32, Digest)>
     candidate_root(identifier, tree, one_time, message, signature)
 }
 
-/// RFC 8554, 5.4.2, algorithm 6a: the leaf number, and the root that the signature leads to.
+/// RFC 8554, 5.4.2, algorithm 6a: the root that the signature leads to.
 fn candidate_root(
     identifier: [u8; 16],
     tree: &TreeType,
     one_time: &'static OneTimeType,
     message: &[u8],
     signature: &[u8],
-) -> Option<(u32, Digest)> {
+) -> Option<Led> {
     // Steps 1 and 2.a to 2.c: the leaf number and the one-time type.
     let q = u32_at(signature, 0)?;
     if u32_at(signature, 4)? != one_time.code {
@@ -158,7 +186,8 @@ fn candidate_root(
     }
     // Step 3: the candidate one-time key.
     let leaf = Leaf { identifier, q };
-    let one_time_key = candidate_one_time_key(&leaf, one_time, message, one_time_signature)?;
+    let (one_time_key, steps) =
+        candidate_one_time_key(&leaf, one_time, message, one_time_signature)?;
     // Step 4: from the leaf to the root.
     let mut node = (1 << tree.h) + q;
     let mut value = leaf_value(&identifier, node, &one_time_key);
@@ -173,16 +202,17 @@ fn candidate_root(
         };
         path_at += N;
     }
-    Some((q, value))
+    Some(Led { leaf: q, root: value, steps })
 }
 
-/// RFC 8554, 4.6, algorithm 4b: the one-time key that the one-time signature leads to.
+/// RFC 8554, 4.6, algorithm 4b: the one-time key that the one-time signature leads to, and the calls
+/// of the chain's hash.
 fn candidate_one_time_key(
     leaf: &Leaf,
     one_time: &'static OneTimeType,
     message: &[u8],
     signature: &[u8],
-) -> Option<Digest> {
+) -> Option<(Digest, u32)> {
     // Steps 1 and 2: type, C and y, and the exact length.
     if u32_at(signature, 0)? != one_time.code || signature.len() != 4 + N * (one_time.p + 1) {
         return None;
@@ -190,12 +220,8 @@ fn candidate_one_time_key(
     let c: Digest = array_at(signature, 4)?;
     // Step 3: each chain from its digit to its end.
     let hash = leaf.message_hash(&c, message);
-    let mut ends = Vec::with_capacity(N * one_time.p);
-    for (i, digit) in one_time.digits(&hash).into_iter().enumerate() {
-        let y: Digest = array_at(signature, 4 + N * (i + 1))?;
-        ends.extend(leaf.chain(i, digit, one_time.largest_digit(), y));
-    }
-    Some(leaf.one_time_key(&ends))
+    let (ends, steps) = leaf.ends(one_time, &hash, &signature[4 + N..])?;
+    Some((leaf.one_time_key(&ends), steps))
 }
 
 impl OneTimeType {
@@ -238,19 +264,36 @@ impl Leaf {
         sha256(&[&self.identifier, &self.q.to_be_bytes(), &D_MESG, c, message])
     }
 
-    /// RFC 8554, 4.3, 4.5 and 4.6, inner loop: chain i from its value at `from` to that at `to`.
-    fn chain(&self, i: usize, from: u32, to: u32, mut value: Digest) -> Digest {
+    /// RFC 8554, 4.6, step 3, outer loop: all chains' ends, from the values y at the hash's digits;
+    /// and the calls of the chain's hash.
+    fn ends(&self, one_time: &OneTimeType, hash: &Digest, y: &[u8]) -> Option<(Vec<u8>, u32)> {
+        let mut ends = Vec::with_capacity(N * one_time.p);
+        let mut steps = 0;
+        for (i, digit) in one_time.digits(hash).into_iter().enumerate() {
+            let (end, called) = self.chain(i, digit, one_time.largest_digit(), array_at(y, N * i)?);
+            ends.extend(end);
+            steps += called;
+        }
+        Some((ends, steps))
+    }
+
+    /// RFC 8554, 4.3, 4.5 and 4.6, inner loop: chain i from its value at `from` to that at `to`, and
+    /// how often the hash was called for it. So a step is counted where it is made, and nothing has
+    /// to be said of digits (document 02, W7).
+    fn chain(&self, i: usize, from: u32, to: u32, mut value: Digest) -> (Digest, u32) {
         // I, q, i, j and the value.
         let mut bytes = [0; ONE_BLOCK];
         bytes[..16].copy_from_slice(&self.identifier);
         bytes[16..20].copy_from_slice(&self.q.to_be_bytes());
         bytes[20..22].copy_from_slice(&(i as u16).to_be_bytes());
+        let mut called = 0;
         for j in from..to {
             bytes[22] = j as u8;
             bytes[23..].copy_from_slice(&value);
             value = sha256_of_one_block(&bytes);
+            called += 1;
         }
-        value
+        (value, called)
     }
 
     /// RFC 8554, 4.3 and 4.6, step K: the hash of all chains' ends.

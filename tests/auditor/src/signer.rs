@@ -101,7 +101,7 @@ mod tests {
     use super::*;
     use crate::bytes::u32_at;
     use crate::cluster::Keys;
-    use crate::lms::{check, Verdict};
+    use crate::lms::check;
     use crate::roster::Roster;
     use std::collections::BTreeSet;
 
@@ -114,7 +114,7 @@ mod tests {
         for message in 0..32u8 {
             let signature = signer.sign(1, &[message]);
             assert_eq!(u32_at(&signature, 0), message.into());
-            assert_eq!(check(roster.key(1), &[message], &signature), Verdict::Good(message.into()));
+            assert_eq!(check(roster.key(1), &[message], &signature).good(), Some(message.into()));
         }
         for message in 0..32u8 {
             assert_eq!(u32_at(&signer.sign(1, &[message]), 0), message.into(), "kept");
@@ -155,8 +155,8 @@ mod tests {
         let leaf = signer.leaves(2).start + 5;
         let two = [&b"one"[..], b"other"].map(|message| signer.sign_with(2, leaf, message));
         assert_eq!(two.clone().map(|signature| u32_at(&signature, 0)), [leaf; 2]);
-        assert_eq!(check(roster.key(2), b"one", &two[0]), Verdict::Good(leaf));
-        assert_eq!(check(roster.key(2), b"other", &two[1]), Verdict::Good(leaf));
+        assert_eq!(check(roster.key(2), b"one", &two[0]).good(), Some(leaf));
+        assert_eq!(check(roster.key(2), b"other", &two[1]).good(), Some(leaf));
     }
 
     /// Two submissions of one case: a vote that stands in both has one signature, and all other

@@ -1,6 +1,6 @@
 //! Signature checks, each kept: damaged submissions leave most signatures as they were.
 
-use crate::lms::{check, Verdict};
+use crate::lms::check;
 use std::collections::HashMap;
 
 /// A key, a message and a signature.
@@ -24,10 +24,7 @@ impl Verdicts {
     pub fn leaf(&mut self, key: &[u8], message: &[u8], signature: &[u8]) -> Option<u32> {
         self.asked += 1;
         let input = (key.to_vec(), message.to_vec(), signature.to_vec());
-        *self.known.entry(input).or_insert_with(|| match check(key, message, signature) {
-            Verdict::Good(leaf) => Some(leaf),
-            Verdict::Bad | Verdict::Long => None,
-        })
+        *self.known.entry(input).or_insert_with(|| check(key, message, signature).good())
     }
 
     /// How many of them were made: those not known before.

@@ -27,8 +27,8 @@ impl OneTime {
     /// RFC 8554, 4.3, algorithm 1: the one-time key K.
     pub fn public(&self) -> Digest {
         let largest = self.kind.largest_digit();
-        let ends: Vec<u8> =
-            (0..self.kind.p).flat_map(|i| self.leaf.chain(i, 0, largest, self.secret(i))).collect();
+        let end = |i| self.leaf.chain(i, 0, largest, self.secret(i)).0;
+        let ends: Vec<u8> = (0..self.kind.p).flat_map(end).collect();
         self.leaf.one_time_key(&ends)
     }
 
@@ -38,7 +38,7 @@ impl OneTime {
         let mut signature = self.kind.code.to_be_bytes().to_vec();
         signature.extend(c);
         for (i, digit) in digits.into_iter().enumerate() {
-            signature.extend(self.leaf.chain(i, 0, digit, self.secret(i)));
+            signature.extend(self.leaf.chain(i, 0, digit, self.secret(i)).0);
         }
         signature
     }
@@ -135,7 +135,7 @@ fn join(q: u32, one_time_signature: &[u8], tree: &TreeType, path: &[Digest]) -> 
 mod tests {
     use super::*;
     use crate::hex;
-    use crate::lms::{check, Verdict, ONE_TIME_TYPES, TREE_TYPES};
+    use crate::lms::{check, ONE_TIME_TYPES, TREE_TYPES};
 
     /// Every leaf of a full tree signs for the tree's key, and only its own message.
     #[test]
@@ -144,8 +144,8 @@ mod tests {
             let tree = Tree::new(kind, &TREE_TYPES[0], [7; 16], [8; 32]);
             for q in 0..32 {
                 let signature = tree.sign(q, &[9; 32], b"message");
-                assert_eq!(check(&tree.key(), b"message", &signature), Verdict::Good(q));
-                assert_eq!(check(&tree.key(), b"massage", &signature), Verdict::Bad);
+                assert_eq!(check(&tree.key(), b"message", &signature).good(), Some(q));
+                assert_eq!(check(&tree.key(), b"massage", &signature).good(), None);
             }
         }
     }

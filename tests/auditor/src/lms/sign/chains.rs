@@ -53,7 +53,7 @@ impl OneTimeKeys {
         for (i, digit) in digits.into_iter().enumerate() {
             let kept = digit / STRIDE;
             let value = chains.kept[i][kept as usize];
-            signature.extend(leaf.chain(i, STRIDE * kept, digit, value));
+            signature.extend(leaf.chain(i, STRIDE * kept, digit, value).0);
         }
         signature
     }
@@ -77,7 +77,7 @@ impl OneTimeKeys {
             let mut values = Vec::new();
             for from in (0..=largest).step_by(STRIDE as usize) {
                 values.push(value);
-                value = leaf.chain(i, from, largest.min(from + STRIDE), value);
+                value = leaf.chain(i, from, largest.min(from + STRIDE), value).0;
             }
             ends.extend(value);
             kept.push(values);

@@ -90,7 +90,7 @@ impl FewLeaves {
 mod tests {
     use super::*;
     use crate::lms::sign::Tree;
-    use crate::lms::{check, Verdict, ONE_TIME_TYPES, TREE_TYPES};
+    use crate::lms::{check, ONE_TIME_TYPES, TREE_TYPES};
 
     fn keys() -> Rc<OneTimeKeys> {
         Rc::new(OneTimeKeys::new(&ONE_TIME_TYPES[3], [4; 16], [5; 32]))
@@ -108,8 +108,8 @@ mod tests {
                     let signature = few.sign(q, &[7]).expect("a real leaf");
                     assert_eq!(signature.len(), few.signature_length());
                     assert_eq!(signature[..4], q.to_be_bytes());
-                    assert_eq!(check(few.key(), &[7], &signature), Verdict::Good(q));
-                    assert_eq!(check(few.key(), &[8], &signature), Verdict::Bad);
+                    assert_eq!(check(few.key(), &[7], &signature).good(), Some(q));
+                    assert_eq!(check(few.key(), &[8], &signature).good(), None);
                 }
                 assert_eq!(few.sign(first + 3, &[7]), None);
             }
@@ -133,8 +133,8 @@ mod tests {
         let few = FewLeaves::new(keys(), &TREE_TYPES[1], 64..66);
         let [one, other] = [b"one", b"two"].map(|message| few.sign(65, message).expect("real"));
         assert_eq!((&one[..4], one != other), (&other[..4], true));
-        assert_eq!(check(few.key(), b"one", &one), Verdict::Good(65));
-        assert_eq!(check(few.key(), b"two", &other), Verdict::Good(65));
+        assert_eq!(check(few.key(), b"one", &one).good(), Some(65));
+        assert_eq!(check(few.key(), b"two", &other).good(), Some(65));
     }
 
     /// A leaf may sign one message twice, with other bytes: both are good.
@@ -145,7 +145,7 @@ mod tests {
         assert_eq!(few.sign(64, b"one").as_ref(), Some(&signed[0]));
         assert!(signed[0] != signed[1] && signed[0] != signed[2] && signed[1] != signed[2]);
         for signature in signed {
-            assert_eq!(check(few.key(), b"one", &signature), Verdict::Good(64));
+            assert_eq!(check(few.key(), b"one", &signature).good(), Some(64));
         }
     }
 }
