@@ -121,6 +121,7 @@ pub unsafe extern "C" fn auditor_assemble(
 pub struct LmsAnswer {
     number: u32,
     leaf: u32,
+    steps: u32,
 }
 
 /// What hirelog_lms_check has to return.
@@ -141,7 +142,7 @@ pub unsafe extern "C" fn auditor_lms_check(
         from_raw_parts(message, message_len),
         from_raw_parts(signature, signature_len),
     );
-    LmsAnswer { number: verdict.number().into(), leaf: verdict.leaf() }
+    LmsAnswer { number: verdict.number().into(), leaf: verdict.leaf(), steps: verdict.steps() }
 }
 
 /// Writes the root that the signature leads to, whatever the key's root is; 1, or 0 if it leads to

@@ -6,12 +6,13 @@
  * there is. A mutation changes one of the parts, or gives key and signature types that are known
  * and the signature their length, or takes another leaf number, and writes the lengths anew.
  *
- * Number and leaf have to be those of the separately written auditor, whose branches lead the
- * fuzzer on, with the types of the signatures that lead to a root. Such a signature is hardly ever
- * good once something has been changed, so the auditor's root is then put into the key: now it has
- * to be good, which it is only if the library comes to the same root, and by the leaf that it
+ * Number, leaf and steps have to be those of the separately written auditor, whose branches lead
+ * the fuzzer on, with the types of the signatures that lead to a root. Such a signature is hardly
+ * ever good once something has been changed, so the auditor's root is then put into the key: now it
+ * has to be good, which it is only if the library comes to the same root, and by the leaf that it
  * begins with; and with one bit of the root changed, or with a byte more or fewer of key or
- * signature, it has to be bad, and beside that the leaf is 0.
+ * signature, it has to be bad, and beside that the leaf is 0. The root is nothing to the steps, and
+ * a wrong length has none (document 02, W7).
  */
 #define _GNU_SOURCE
 #include "big_endian.h"
@@ -121,14 +122,17 @@ static struct hirelog_lms_answer library(const struct input *input)
 }
 
 /* Whether the library answers so. */
-static int answers(const struct input *input, uint32_t number, uint32_t leaf)
+static int answers(const struct input *input, uint32_t number, uint32_t leaf, uint32_t steps)
 {
     struct hirelog_lms_answer answer = library(input);
-    return answer.number == number && answer.leaf == leaf;
+    return answer.number == number && answer.leaf == leaf && answer.steps == steps;
 }
 
-/* Of a signature that leads to this root: good for it, and bad for another or in other lengths. */
-static void check_root(const struct input *input, const uint8_t root[32])
+/*
+ * Of a signature that leads to this root, in so many steps: good for it, and bad for another or in
+ * other lengths.
+ */
+static void check_root(const struct input *input, const uint8_t root[32], uint32_t steps)
 {
     static uint8_t key[KEY_SIZE + 1], signature[ROOM];
     struct input other = *input;
@@ -138,20 +142,20 @@ static void check_root(const struct input *input, const uint8_t root[32])
     memcpy(signature, input->parts[SIGNATURE], input->lens[SIGNATURE]);
     other.parts[KEY] = key;
     other.parts[SIGNATURE] = signature;
-    if (!answers(&other, HIRELOG_OK, read_u32(signature)))
-        fail("the library comes to another root than the auditor, or answers another leaf");
+    if (!answers(&other, HIRELOG_OK, read_u32(signature), steps))
+        fail("another root than the one that the auditor comes to, or another leaf or other steps");
     for (int which = KEY; which <= SIGNATURE; which += SIGNATURE - KEY) {
         other.lens[which]++;
-        int longer = answers(&other, HIRELOG_BAD_SIGNATURE, 0);
+        int longer = answers(&other, HIRELOG_BAD_SIGNATURE, 0, 0);
         other.lens[which] -= 2;
-        int shorter = answers(&other, HIRELOG_BAD_SIGNATURE, 0);
+        int shorter = answers(&other, HIRELOG_BAD_SIGNATURE, 0, 0);
         other.lens[which]++;
         if (!longer || !shorter)
-            fail("good with a byte more or fewer, or with a leaf");
+            fail("good with a byte more or fewer, or with a leaf or steps");
     }
     key[ROOT_AT + bit / 8 % 32] ^= (uint8_t)(1 << bit % 8);
-    if (!answers(&other, HIRELOG_BAD_SIGNATURE, 0))
-        fail("good for a root with a bit changed, or with a leaf");
+    if (!answers(&other, HIRELOG_BAD_SIGNATURE, 0, steps))
+        fail("good for a root with a bit changed, or with a leaf or other steps");
 }
 
 int LLVMFuzzerTestOneInput(const uint8_t *data, size_t size)
@@ -163,14 +167,14 @@ int LLVMFuzzerTestOneInput(const uint8_t *data, size_t size)
     struct hirelog_lms_answer right =
         auditor_lms_check(input.parts[KEY], input.lens[KEY], input.parts[MESSAGE],
                           input.lens[MESSAGE], input.parts[SIGNATURE], input.lens[SIGNATURE]);
-    if (!answers(&input, right.number, right.leaf))
-        fail("another number or leaf than the auditor's");
+    if (!answers(&input, right.number, right.leaf, right.steps))
+        fail("another number, leaf or count of steps than the auditor's");
     if (auditor_lms_root(input.parts[KEY], input.lens[KEY], input.parts[MESSAGE],
                          input.lens[MESSAGE], input.parts[SIGNATURE], input.lens[SIGNATURE],
                          root)) {
         int tree = input.parts[KEY][3] - 5, one_time = input.parts[KEY][7] - 1;
         seen[2 * (4 * tree + one_time) + (right.number == HIRELOG_OK)] = 1;
-        check_root(&input, root);
+        check_root(&input, root, right.steps);
     }
     return 0;
 }
