@@ -1,18 +1,18 @@
-//! `hirelog_lms_check`: the signature check. It answers a number and, for a good signature, the
-//! leaf that has signed.
+//! `hirelog_lms_check`: the signature check. It answers a number, for a good signature the leaf that
+//! has signed, and the chain steps (document 02, W7).
 
 mod cases;
 
-use crate::call::{Call, Case, Input, Output, Shape};
+use crate::call::{Answer, Call, Case, Input, Output, Shape};
 use auditor::cases::Size;
-use auditor::lms::check;
+use auditor::lms::{check, one_time_type};
 use hirelog::sys::{hirelog_lms_check, LmsAnswer};
 
 static SHAPE: Shape = Shape {
     name: "lms_check",
     inputs: &["key", "message", "signature"],
     outputs: &[],
-    returns: &["number", "leaf"],
+    returns: &["number", "leaf", "steps"],
     numbers: &[0, 15, 16],
     within: &[],
     fewest: (20_000, 5000),
@@ -33,7 +33,7 @@ impl Call for LmsCheck {
     fn library(&self, inputs: &[Input], _: &mut [Output]) -> Vec<u64> {
         let [key, message, signature] = inputs else { unreachable!("three inputs") };
         // SAFETY: as the harness says.
-        let LmsAnswer { number, leaf } = unsafe {
+        let LmsAnswer { number, leaf, steps } = unsafe {
             hirelog_lms_check(
                 key.start(),
                 key.length(),
@@ -43,11 +43,25 @@ impl Call for LmsCheck {
                 signature.length(),
             )
         };
-        vec![number.into(), leaf.into()]
+        vec![number.into(), leaf.into(), steps.into()]
     }
 
     fn auditor(&self, inputs: &[&[u8]], _: &mut [&mut [u8]]) -> Vec<u64> {
         let verdict = check(inputs[0], inputs[1], inputs[2]);
-        vec![verdict.number().into(), verdict.leaf().into()]
+        vec![verdict.number().into(), verdict.leaf().into(), verdict.steps().into()]
+    }
+
+    /// What document 02, W7 says of any count: whether it can be one.
+    fn also_wrong(&self, inputs: &[&[u8]], answer: &Answer) -> Option<String> {
+        let [number, _, steps] = answer.returned[..] else { unreachable!("three values") };
+        let code = inputs[0].get(4..8).map(|code| u32::from_be_bytes(code.try_into().expect("4")));
+        let possible = match code.and_then(one_time_type) {
+            _ if steps == 0 => number != 0,
+            _ if number == 16 => false,
+            Some(kind) if kind.w == 8 => steps % 255 == 0 && (510..=8415).contains(&steps),
+            Some(kind) => steps <= kind.p as u64 * ((1 << kind.w) - 1),
+            None => false,
+        };
+        (!possible).then(|| format!("number {number} has {steps} steps"))
     }
 }

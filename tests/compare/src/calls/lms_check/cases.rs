@@ -4,12 +4,14 @@ mod leaves;
 mod messages;
 mod shapes;
 mod spoiled;
+#[cfg(test)]
+mod tests;
 
 use crate::call::{Answer, Case};
 use auditor::cases::Size;
 use auditor::lms::sign::OneTime;
 use auditor::lms::Verdict::{self, Bad, Good, Long};
-use auditor::lms::{OneTimeType, TreeType, KEY_LENGTH, N, ONE_TIME_TYPES, TREE_TYPES};
+use auditor::lms::{distances, OneTimeType, TreeType, KEY_LENGTH, N, ONE_TIME_TYPES, TREE_TYPES};
 use auditor::random::Random;
 use auditor::sha256::Digest;
 use std::ops::Range;
@@ -62,6 +64,11 @@ impl Made {
     /// Where the signature has its tree type.
     fn tree_type_at(&self) -> usize {
         8 + N * (self.one_time.p + 1)
+    }
+
+    /// The steps that the fields lead to as they stand, if the form is right.
+    fn steps(&self) -> u32 {
+        distances::steps(self.one_time, &self.key, &self.message, &self.signature)
     }
 
     /// RFC 8554, 5.4 and 4.5: fields of the signature; the first and the last chain and node.
@@ -147,11 +154,17 @@ impl Inputs<'_> {
 
     /// By the leaf that it was made with.
     fn good(&mut self, what: &str, made: &Made) {
-        self.hand_on(what, made, Good(made.q));
+        self.hand_on(what, made, Good { leaf: made.q, steps: made.steps() });
     }
 
+    /// Of the right form, and bad by the root: all chains have been gone through.
     fn bad(&mut self, what: &str, made: &Made) {
-        self.hand_on(what, made, Bad);
+        self.hand_on(what, made, Bad { steps: made.steps() });
+    }
+
+    /// Not of the right form: bad before any chain (document 02, W7).
+    fn misformed(&mut self, what: &str, made: &Made) {
+        self.hand_on(what, made, Bad { steps: 0 });
     }
 
     fn long(&mut self, what: &str, made: &Made) {
@@ -159,7 +172,7 @@ impl Inputs<'_> {
     }
 
     fn hand_on(&mut self, what: &str, made: &Made, verdict: Verdict) {
-        let right = [verdict.number().into(), verdict.leaf().into()];
+        let right = [verdict.number().into(), verdict.leaf().into(), verdict.steps().into()];
         let broken = move |answer: &Answer| {
             let found = &answer.returned;
             (found[..] != right).then(|| format!("made to be {right:?}, and is {found:?}"))

@@ -1,9 +1,10 @@
-//! Leaf numbers inside the tree and past it, whole trees, and far checksums.
+//! Leaf numbers inside the tree and past it, whole trees, and checksums chosen by C.
 
-use super::{Inputs, Made};
+use super::{flip, Inputs, Made};
 use auditor::lms::sign::{OneTime, Tree};
-use auditor::lms::{OneTimeType, TreeType, TREE_TYPES};
+use auditor::lms::{OneTimeType, TreeType, N, TREE_TYPES};
 use auditor::sha256::Digest;
+use std::collections::BTreeMap;
 
 impl Inputs<'_> {
     /// Leaves to the last, and leaf numbers past it, signed as if the tree had them: the way up
@@ -35,7 +36,7 @@ impl Inputs<'_> {
             for node in nodes {
                 let message = self.message();
                 let made = self.make_at(one_time, tree, q, node, message);
-                self.bad(&format!("leaf past the tree, as node {node}"), &made);
+                self.misformed(&format!("leaf past the tree, as node {node}"), &made);
             }
         }
     }
@@ -54,23 +55,36 @@ impl Inputs<'_> {
         }
     }
 
-    /// The lowest and the highest checksum among many choices of C.
+    /// The lowest and the highest checksum among many choices of C, and those just below, at and
+    /// just above a multiple of 256, for shorter digits of 16: there the lower digits of the
+    /// checksum begin anew, and the steps of the whole are more at once (document 02, W7).
     pub fn checksums(&mut self, one_time: &'static OneTimeType) {
         let tree = &TREE_TYPES[0];
-        let (identifier, seed) = (self.random.array(), self.random.array());
         let q = self.leaf(tree);
-        let message = self.random.bytes(20);
-        let private = OneTime::new(one_time, identifier, q, seed);
-        let choices: Vec<Digest> = (0..self.count(20_000)).map(|_| self.random.array()).collect();
-        let lowest = choices.iter().min_by_key(|c| private.checksum(c, &message));
-        let highest = choices.iter().max_by_key(|c| private.checksum(c, &message));
-        for c in [lowest, highest].into_iter().flatten() {
+        let private = OneTime::new(one_time, self.random.array(), q, self.random.array());
+        // Of one byte, so that a choice costs one block.
+        let message = self.random.bytes(1);
+        let mut choices: BTreeMap<u16, Digest> = BTreeMap::new();
+        for _ in 0..self.count(300_000) {
+            let c = self.random.array();
+            choices.entry(private.checksum(&c, &message)).or_insert(c);
+        }
+        let ends = [choices.first_key_value(), choices.last_key_value()];
+        let ends = ends.map(|end| end.map(|(sum, _)| *sum));
+        let multiple = if one_time.w == 8 { 256 } else { 16 };
+        choices.retain(|sum, _| ends.contains(&Some(*sum)) || (sum + 1) % multiple < 3);
+        for (sum, c) in choices {
             let path: Vec<Digest> = (0..tree.h).map(|_| self.random.array()).collect();
             let node = (1 << tree.h) + q as u64;
-            let (key, signature) = private.sign_on_path(tree, node, &path, c, &message);
-            let sum = private.checksum(c, &message);
+            let (key, signature) = private.sign_on_path(tree, node, &path, &c, &message);
             let made = Made { one_time, tree, q, key, message: message.clone(), signature };
             self.good(&format!("checksum {sum}"), &made);
+            let mut other = made.clone();
+            flip(&mut other.signature, 8 * (8 + N) + self.random.below(8 * N * one_time.p));
+            self.bad(&format!("checksum {sum}, a chain changed"), &other);
+            let mut other = made.clone();
+            flip(&mut other.key, 8 * 24 + self.random.below(8 * N));
+            self.bad(&format!("checksum {sum}, the root changed"), &other);
         }
     }
 }

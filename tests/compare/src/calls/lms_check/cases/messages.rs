@@ -41,7 +41,7 @@ impl Inputs<'_> {
                 other.signature.clear();
             }
             if choice != 1 {
-                self.bad("parts without bytes", &other);
+                self.misformed("parts without bytes", &other);
             }
         }
     }
@@ -61,7 +61,7 @@ impl Inputs<'_> {
         self.bad("longest message, C changed", &other);
         other.signature = made.signature.clone();
         other.key.pop();
-        self.bad("longest message, short key", &other);
+        self.misformed("longest message, short key", &other);
 
         let made = self.make(one_time, tree, q, pattern(MESSAGE_LIMIT + 1));
         self.long("too long", &made);

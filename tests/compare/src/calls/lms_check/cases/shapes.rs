@@ -31,20 +31,20 @@ impl Inputs<'_> {
         for length in lengths.into_iter().filter(|length| *length != full) {
             let mut other = made.clone();
             self.resize(&mut other.signature, length);
-            self.bad(&format!("signature of {length} bytes"), &other);
+            self.misformed(&format!("signature of {length} bytes"), &other);
         }
         for length in (0..=60).chain([KEY_LENGTH + 256]).filter(|length| *length != KEY_LENGTH) {
             let mut other = made.clone();
             self.resize(&mut other.key, length);
-            self.bad(&format!("key of {length} bytes"), &other);
+            self.misformed(&format!("key of {length} bytes"), &other);
         }
         // One byte lost at the front.
         let mut other = made.clone();
         other.signature.remove(0);
-        self.bad("signature without its first byte", &other);
+        self.misformed("signature without its first byte", &other);
         let mut other = made.clone();
         other.key.remove(0);
-        self.bad("key without its first byte", &other);
+        self.misformed("key without its first byte", &other);
         self.good("full length", &made);
     }
 
@@ -58,7 +58,7 @@ impl Inputs<'_> {
             if length == full {
                 self.good("full length", &other);
             } else {
-                self.bad(&format!("signature of {length} bytes"), &other);
+                self.misformed(&format!("signature of {length} bytes"), &other);
             }
         }
     }
@@ -103,24 +103,38 @@ impl Inputs<'_> {
                     .copy_from_slice(&number.to_be_bytes());
             }
             let name = format!("{field:?} type {number:#x} in {side}");
-            self.bad(&name, &other);
+            self.misformed(&name, &other);
             self.other_layout(&name, other, field, number);
         }
     }
 
     /// Where the number is that of a type: the length that goes with it, then the place of the
-    /// tree type also.
+    /// tree type also. With the number on both sides the form may then be right.
     fn other_layout(&mut self, name: &str, mut other: Made, field: Field, number: u32) {
         let types = match field {
             Field::OneTime => one_time_type(number).zip(Some(other.tree)),
             Field::Tree => Some(other.one_time).zip(tree_type(number)),
         };
         if let Some((one_time, tree)) = types {
+            (other.one_time, other.tree) = (one_time, tree);
             self.resize(&mut other.signature, signature_length(one_time, tree));
-            self.bad(&format!("{name}, its length"), &other);
-            let type_at = 8 + N * (one_time.p + 1);
+            self.bad_by_types(&format!("{name}, its length"), &other);
+            let type_at = other.tree_type_at();
             other.signature[type_at..type_at + 4].copy_from_slice(&tree.code.to_be_bytes());
-            self.bad(&format!("{name}, its length and layout"), &other);
+            self.bad_by_types(&format!("{name}, its length and layout"), &other);
+        }
+    }
+
+    /// Of the length of its types, and bad: by the root if key and signature have these types and
+    /// the tree has the leaf, otherwise by the form.
+    fn bad_by_types(&mut self, what: &str, made: &Made) {
+        let (one_time, tree) = (made.one_time.code.to_be_bytes(), made.tree.code.to_be_bytes());
+        let in_key = made.key[..8] == [tree, one_time].concat();
+        let in_signature = made.signature[4..8] == one_time
+            && made.signature[made.tree_type_at()..].starts_with(&tree);
+        match in_key && in_signature && made.q < 1 << made.tree.h {
+            true => self.bad(what, made),
+            false => self.misformed(what, made),
         }
     }
 
@@ -128,7 +142,7 @@ impl Inputs<'_> {
     pub fn unknown_heights(&mut self, one_time: &'static OneTimeType) {
         for tree in &UNKNOWN_TREES {
             let made = self.make_any(one_time, tree);
-            self.bad("unknown tree type, all else right", &made);
+            self.misformed("unknown tree type, all else right", &made);
         }
     }
 }

@@ -22,13 +22,10 @@ impl Inputs<'_> {
 
     /// One signature, spoiled in several ways.
     fn spoil(&mut self, made: &Made) {
-        let mut other = made.clone();
-        flip(&mut other.signature, self.random.below(8 * made.signature.len()));
-        self.bad("bit of the signature", &other);
-
-        let mut other = made.clone();
-        flip(&mut other.key, self.random.below(8 * KEY_LENGTH));
-        self.bad("bit of the key", &other);
+        let bit = self.random.below(8 * made.signature.len());
+        self.flip_in_signature("bit of the signature", made, bit);
+        let bit = self.random.below(8 * KEY_LENGTH);
+        self.flip_in_key("bit of the key", made, bit);
 
         let mut other = made.clone();
         other.message.push(self.random.word() as u8);
@@ -52,6 +49,31 @@ impl Inputs<'_> {
         self.bad("other leaf of the tree", &other);
     }
 
+    /// The signature with a bit flipped. The form is wrong then if the bit is one of a type, or one
+    /// that takes the leaf number past the tree.
+    pub fn flip_in_signature(&mut self, what: &str, made: &Made, bit: usize) {
+        let mut other = made.clone();
+        flip(&mut other.signature, bit);
+        let (past_the_tree, type_at) = (0..32 - made.tree.h as usize, 8 * made.tree_type_at());
+        match past_the_tree.contains(&bit)
+            || (32..64).contains(&bit)
+            || (type_at..type_at + 32).contains(&bit)
+        {
+            true => self.misformed(what, &other),
+            false => self.bad(what, &other),
+        }
+    }
+
+    /// The key with a bit flipped; the first 64 are those of the types.
+    pub fn flip_in_key(&mut self, what: &str, made: &Made, bit: usize) {
+        let mut other = made.clone();
+        flip(&mut other.key, bit);
+        match bit < 64 {
+            true => self.misformed(what, &other),
+            false => self.bad(what, &other),
+        }
+    }
+
     /// The first and the last bit of each field, flipped.
     pub fn field_edges(&mut self, one_time: &'static OneTimeType, tree: &'static TreeType) {
         let message_length = 1 + self.random.below(100);
@@ -60,16 +82,12 @@ impl Inputs<'_> {
         self.good("before flips", &made);
         for (field, at) in made.signature_fields() {
             for bit in [8 * at.start, 8 * at.end - 1] {
-                let mut other = made.clone();
-                flip(&mut other.signature, bit);
-                self.bad(&format!("{field} of the signature, bit {bit}"), &other);
+                self.flip_in_signature(&format!("{field} of the signature, bit {bit}"), &made, bit);
             }
         }
         for (field, at) in made.key_fields() {
             for bit in [8 * at.start, 8 * at.end - 1] {
-                let mut other = made.clone();
-                flip(&mut other.key, bit);
-                self.bad(&format!("{field} of the key, bit {bit}"), &other);
+                self.flip_in_key(&format!("{field} of the key, bit {bit}"), &made, bit);
             }
         }
         for bit in [0, 8 * made.message.len() - 1] {
@@ -91,16 +109,12 @@ impl Inputs<'_> {
             (Size::Full, _) => 1,
         };
         for at in (0..made.signature.len()).step_by(step) {
-            let mut other = made.clone();
             let bit = 8 * at + self.random.below(8);
-            flip(&mut other.signature, bit);
-            self.bad(&format!("signature, bit {bit}"), &other);
+            self.flip_in_signature(&format!("signature, bit {bit}"), &made, bit);
         }
         for at in 0..KEY_LENGTH {
-            let mut other = made.clone();
             let bit = 8 * at + self.random.below(8);
-            flip(&mut other.key, bit);
-            self.bad(&format!("key, bit {bit}"), &other);
+            self.flip_in_key(&format!("key, bit {bit}"), &made, bit);
         }
         for at in 0..made.message.len() {
             let mut other = made.clone();
