@@ -5,9 +5,11 @@
  *
  * lms_vectors.h has the form of a vector file. The leaf of a good signature has to be the number
  * that it begins with and, for those of RFC 8554, the one that is printed there; beside every other
- * number the leaf is 0. Of the first good signature then every shorter length and a longer one are
- * tried, of the key as well, and a change of each byte; NULL; and the longest message and one byte
- * more. The first failure is printed, and the exit status is then 1.
+ * number the leaf is 0. The steps, of a bad signature too, have to be those that are counted here
+ * from the digits of the message's hash, which is OpenSSL's; they are 0 where the form is wrong.
+ * Of the first good signature then every shorter length and a longer one are tried, of the key as
+ * well, and a change of each byte; NULL; and the longest message and one byte more. The first
+ * failure is printed, and the exit status is then 1.
  *
  * In every call an unreadable page stands right after the key, the message and the signature, or
  * right before each, and none of the three can be written.
@@ -17,6 +19,8 @@
 #include "guarded.h"
 #include "hirelog.h"
 #include "lms_vectors.h"
+
+#include <openssl/sha.h>
 
 #include <inttypes.h>
 #include <stdio.h>
@@ -50,6 +54,12 @@ static const struct {
 };
 enum { IDENTIFIER_AT = 8, IDENTIFIER_SIZE = 16 };
 
+/* RFC 8554, table 1: digit bits, chains and checksum shift of the one-time types, from 1 on. */
+static const struct one_time {
+    unsigned w, chains, shift;
+} one_time_types[] = {{1, 265, 7}, {2, 133, 6}, {4, 67, 4}, {8, 34, 0}};
+enum { HASH = HIRELOG_DIGEST_SIZE };
+
 static struct guarded rooms[INPUTS];
 static struct lms_vector first_good;
 static unsigned long checks;       /* calls whose every outcome was checked */
@@ -75,6 +85,64 @@ static _Noreturn void guarded_stop(const char *why, const char *hint)
     fail(text);
 }
 
+/* ---- the steps of a check (document 02, W7) */
+
+/* The key's one-time type, or NULL if key and signature are not of the form of their types. */
+static const struct one_time *form_of(const struct input *key, const struct input *signature)
+{
+    if (key->len != HIRELOG_LMS_KEY_SIZE)
+        return NULL;
+    uint32_t tree = read_u32(key->bytes), one_time = read_u32(key->bytes + 4);
+    if (tree < 5 || tree > 9 || one_time < 1 || one_time > 4)
+        return NULL;
+    unsigned height = 5 * (tree - 4);
+    const struct one_time *type = &one_time_types[one_time - 1];
+    size_t type_at = 8 + HASH * (1 + (size_t)type->chains);
+    if (signature->len != type_at + 4 + (size_t)HASH * height)
+        return NULL;
+    int right = read_u32(signature->bytes) < 1u << height &&
+                read_u32(signature->bytes + 4) == one_time &&
+                read_u32(signature->bytes + type_at) == tree;
+    return right ? type : NULL;
+}
+
+/* RFC 8554, 3.1.3: coef(bytes, i, w). */
+static uint32_t coef(const uint8_t *bytes, unsigned i, unsigned w)
+{
+    return bytes[i * w / 8] >> (8 - (w * (i % (8 / w)) + w)) & ((1u << w) - 1);
+}
+
+/* The sum of (2^w - 1) - coef(bytes, i, w) over the first digits. */
+static uint32_t distances(const uint8_t *bytes, unsigned digits, unsigned w)
+{
+    uint32_t sum = 0;
+    for (unsigned i = 0; i < digits; i++)
+        sum += (1u << w) - 1 - coef(bytes, i, w);
+    return sum;
+}
+
+/* The steps of a check of the inputs: each chain goes from its digit to 2^w - 1 (RFC 8554, 4.6). */
+static uint32_t steps_of(const struct input inputs[INPUTS])
+{
+    static uint8_t hashed[54 + HIRELOG_MESSAGE_MAX]; /* I, q, D_MESG, C and the message */
+    uint8_t digits[HASH + 2];
+    const struct one_time *type = form_of(&inputs[KEY], &inputs[SIGNATURE]);
+    if (!type)
+        return 0;
+    memcpy(hashed, inputs[KEY].bytes + IDENTIFIER_AT, IDENTIFIER_SIZE);
+    memcpy(hashed + 16, inputs[SIGNATURE].bytes, 4);
+    write_u16(hashed + 20, 0x8181);
+    memcpy(hashed + 22, inputs[SIGNATURE].bytes + 8, HASH);
+    if (inputs[MESSAGE].len > 0)
+        memcpy(hashed + 54, inputs[MESSAGE].bytes, inputs[MESSAGE].len);
+    if (!SHA256(hashed, 54 + inputs[MESSAGE].len, digits))
+        fail("OpenSSL gave no digest");
+    /* The checksum (RFC 8554, algorithm 2) stands after the hash. */
+    uint32_t checksum = distances(digits, 8 * HASH / type->w, type->w);
+    write_u16(digits + HASH, (uint16_t)(checksum << type->shift));
+    return distances(digits, type->chains, type->w);
+}
+
 /* ---- one call */
 
 static void make_rooms(void)
@@ -85,9 +153,9 @@ static void make_rooms(void)
         guarded_make(&rooms[i], input_names[i], sizes[i]);
 }
 
-/* Calls the function once on copies of the inputs and checks the number and the leaf returned. */
-static void check_call(const struct input inputs[INPUTS], enum guarded_side side, uint32_t want,
-                       uint32_t want_leaf)
+/* Calls the function once on copies of the inputs and checks what is returned. */
+static void check_call(const struct input inputs[INPUTS], enum guarded_side side,
+                       struct hirelog_lms_answer want)
 {
     const uint8_t *lent[INPUTS];
     for (int i = 0; i < INPUTS; i++) {
@@ -101,28 +169,38 @@ static void check_call(const struct input inputs[INPUTS], enum guarded_side side
         hirelog_lms_check(lent[KEY], inputs[KEY].len, lent[MESSAGE], inputs[MESSAGE].len,
                           lent[SIGNATURE], inputs[SIGNATURE].len);
 
-    if (answer.number != want || answer.leaf != want_leaf) {
-        char text[120];
+    if (answer.number != want.number || answer.leaf != want.leaf || answer.steps != want.steps) {
+        char text[160];
         snprintf(text, sizeof text,
-                 "number %" PRIu32 " and leaf %" PRIu32 " returned, not %" PRIu32 " and %" PRIu32,
-                 answer.number, answer.leaf, want, want_leaf);
+                 "number %" PRIu32 ", leaf %" PRIu32 " and steps %" PRIu32
+                 " returned, not %" PRIu32 ", %" PRIu32 " and %" PRIu32,
+                 answer.number, answer.leaf, answer.steps, want.number, want.leaf, want.steps);
         fail(text);
     }
     checks++;
 }
 
-/* The same inputs before an unreadable page each, and after one: good by this leaf. */
-static void check_good(const struct input inputs[INPUTS], uint32_t leaf)
+/* The same inputs before an unreadable page each, and after one. */
+static void check_both(const struct input inputs[INPUTS], struct hirelog_lms_answer want)
 {
-    check_call(inputs, PAGE_AFTER, HIRELOG_OK, leaf);
-    check_call(inputs, PAGE_BEFORE, HIRELOG_OK, leaf);
+    check_call(inputs, PAGE_AFTER, want);
+    check_call(inputs, PAGE_BEFORE, want);
 }
 
-/* The same with another number, beside which the leaf is 0. */
-static void check_other(const struct input inputs[INPUTS], uint32_t want)
+static void check_good(const struct input inputs[INPUTS], uint32_t leaf)
 {
-    check_call(inputs, PAGE_AFTER, want, 0);
-    check_call(inputs, PAGE_BEFORE, want, 0);
+    check_both(inputs, (struct hirelog_lms_answer){HIRELOG_OK, leaf, steps_of(inputs)});
+}
+
+static void check_bad(const struct input inputs[INPUTS])
+{
+    check_both(inputs, (struct hirelog_lms_answer){HIRELOG_BAD_SIGNATURE, 0, steps_of(inputs)});
+}
+
+/* Without leaf and steps. */
+static void check_other(const struct input inputs[INPUTS], uint32_t number)
+{
+    check_both(inputs, (struct hirelog_lms_answer){number, 0, 0});
 }
 
 /* The leaf number that a good signature begins with, held to the published one. */
@@ -158,7 +236,7 @@ static void check_vector(const struct lms_vector *vector)
     snprintf(part, sizeof part, "%s", vector->name);
     set_inputs(inputs, vector);
     if (!vector->good) {
-        check_other(inputs, HIRELOG_BAD_SIGNATURE);
+        check_bad(inputs);
         return;
     }
     check_good(inputs, leaf_of(vector));
@@ -194,7 +272,8 @@ static void check_every_byte(int which)
         uint8_t bit = (uint8_t)(1 << i % 8);
         snprintf(part, sizeof part, "byte %zu of the %s changed", i, input_names[which]);
         changed[i] ^= bit;
-        check_call(inputs, PAGE_AFTER, HIRELOG_BAD_SIGNATURE, 0);
+        check_call(inputs, PAGE_AFTER,
+                   (struct hirelog_lms_answer){HIRELOG_BAD_SIGNATURE, 0, steps_of(inputs)});
         changed[i] ^= bit;
     }
 }
@@ -209,7 +288,7 @@ static void check_null(void)
         for (int i = 0; i < INPUTS; i++)
             if (set >> i & 1)
                 inputs[i] = (struct input){NULL, 0};
-        check_other(inputs, HIRELOG_BAD_SIGNATURE);
+        check_bad(inputs);
     }
 }
 
@@ -227,7 +306,7 @@ static void check_limit(void)
 
     set_inputs(inputs, &first_good);
     inputs[MESSAGE] = (struct input){message, max};
-    check_other(inputs, HIRELOG_BAD_SIGNATURE);
+    check_bad(inputs);
     inputs[MESSAGE].len = max + 1;
     check_other(inputs, HIRELOG_LONG_MESSAGE);
     inputs[SIGNATURE].len = 0;
