@@ -1,6 +1,6 @@
 //! Leaf numbers inside the tree and past it, whole trees, and checksums chosen by C.
 
-use super::{flip, Inputs, Made};
+use super::{Inputs, Made};
 use auditor::lms::sign::{OneTime, Tree};
 use auditor::lms::{OneTimeType, TreeType, N, TREE_TYPES};
 use auditor::sha256::Digest;
@@ -64,14 +64,15 @@ impl Inputs<'_> {
         let private = OneTime::new(one_time, self.random.array(), q, self.random.array());
         // Of one byte, so that a choice costs one block.
         let message = self.random.bytes(1);
+        // The sums of wide digits lie farther apart.
+        let (tries, multiple) = if one_time.w == 8 { (300_000, 256) } else { (50_000, 16) };
         let mut choices: BTreeMap<u16, Digest> = BTreeMap::new();
-        for _ in 0..self.count(300_000) {
+        for _ in 0..self.count(tries) {
             let c = self.random.array();
             choices.entry(private.checksum(&c, &message)).or_insert(c);
         }
         let ends = [choices.first_key_value(), choices.last_key_value()];
         let ends = ends.map(|end| end.map(|(sum, _)| *sum));
-        let multiple = if one_time.w == 8 { 256 } else { 16 };
         choices.retain(|sum, _| ends.contains(&Some(*sum)) || (sum + 1) % multiple < 3);
         for (sum, c) in choices {
             let path: Vec<Digest> = (0..tree.h).map(|_| self.random.array()).collect();
@@ -79,12 +80,10 @@ impl Inputs<'_> {
             let (key, signature) = private.sign_on_path(tree, node, &path, &c, &message);
             let made = Made { one_time, tree, q, key, message: message.clone(), signature };
             self.good(&format!("checksum {sum}"), &made);
-            let mut other = made.clone();
-            flip(&mut other.signature, 8 * (8 + N) + self.random.below(8 * N * one_time.p));
-            self.bad(&format!("checksum {sum}, a chain changed"), &other);
-            let mut other = made.clone();
-            flip(&mut other.key, 8 * 24 + self.random.below(8 * N));
-            self.bad(&format!("checksum {sum}, the root changed"), &other);
+            let chain_bit = 8 * (8 + N) + self.random.below(8 * N * one_time.p);
+            self.flip_in_signature(&format!("checksum {sum}, a chain changed"), &made, chain_bit);
+            let root_bit = 8 * 24 + self.random.below(8 * N);
+            self.flip_in_key(&format!("checksum {sum}, the root changed"), &made, root_bit);
         }
     }
 }
