@@ -54,8 +54,8 @@ impl Call for LmsCheck {
     /// What document 02, W7 says of any count: whether it can be one.
     fn also_wrong(&self, inputs: &[&[u8]], answer: &Answer) -> Option<String> {
         let [number, _, steps] = answer.returned[..] else { unreachable!("three values") };
-        let code = inputs[0].get(4..8).map(|code| u32::from_be_bytes(code.try_into().expect("4")));
-        let possible = match code.and_then(one_time_type) {
+        let code = inputs[0].get(4..).and_then(|rest| rest.first_chunk());
+        let possible = match code.and_then(|code| one_time_type(u32::from_be_bytes(*code))) {
             _ if steps == 0 => number != 0,
             _ if number == 16 => false,
             Some(kind) if kind.w == 8 => steps % 255 == 0 && (510..=8415).contains(&steps),

@@ -55,10 +55,8 @@ impl Inputs<'_> {
         let mut other = made.clone();
         flip(&mut other.signature, bit);
         let (past_the_tree, type_at) = (0..32 - made.tree.h as usize, 8 * made.tree_type_at());
-        match past_the_tree.contains(&bit)
-            || (32..64).contains(&bit)
-            || (type_at..type_at + 32).contains(&bit)
-        {
+        let form = [past_the_tree, 32..64, type_at..type_at + 32];
+        match form.iter().any(|bits| bits.contains(&bit)) {
             true => self.misformed(what, &other),
             false => self.bad(what, &other),
         }
