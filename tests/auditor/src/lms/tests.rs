@@ -68,6 +68,7 @@ fn right_form() {
             let [key, signature] = made(one_time, tree);
             let steps = distances::steps(one_time, &key, MESSAGE, &signature);
             assert_eq!(check(&key, MESSAGE, &signature), Verdict::Good { leaf: 3, steps });
+            // The longest message, which is the last, for one height only.
             for spoil in spoils.iter().take(if tree.h == 5 { 8 } else { 7 }) {
                 let (mut key, mut message) = (key.clone(), MESSAGE.to_vec());
                 let mut signature = signature.clone();
