@@ -10,8 +10,8 @@ mod tests;
 use crate::call::{Answer, Case};
 use auditor::cases::Size;
 use auditor::lms::sign::OneTime;
-use auditor::lms::Verdict::{self, Bad, Good, Long};
 use auditor::lms::{distances, OneTimeType, TreeType, KEY_LENGTH, N, ONE_TIME_TYPES, TREE_TYPES};
+use auditor::numbers::{ACCEPTED, LONG_MESSAGE, SIGNATURE};
 use auditor::random::Random;
 use auditor::sha256::Digest;
 use std::ops::Range;
@@ -154,25 +154,26 @@ impl Inputs<'_> {
 
     /// By the leaf that it was made with.
     fn good(&mut self, what: &str, made: &Made) {
-        self.hand_on(what, made, Good { leaf: made.q, steps: made.steps() });
+        self.hand_on(what, made, [ACCEPTED.into(), made.q, made.steps()]);
     }
 
     /// Of the right form, and bad by the root: all chains have been gone through.
     fn bad(&mut self, what: &str, made: &Made) {
-        self.hand_on(what, made, Bad { steps: made.steps() });
+        self.hand_on(what, made, [SIGNATURE.into(), 0, made.steps()]);
     }
 
     /// Not of the right form: bad before any chain (document 02, W7).
     fn misformed(&mut self, what: &str, made: &Made) {
-        self.hand_on(what, made, Bad { steps: 0 });
+        self.hand_on(what, made, [SIGNATURE.into(), 0, 0]);
     }
 
     fn long(&mut self, what: &str, made: &Made) {
-        self.hand_on(what, made, Long);
+        self.hand_on(what, made, [LONG_MESSAGE.into(), 0, 0]);
     }
 
-    fn hand_on(&mut self, what: &str, made: &Made, verdict: Verdict) {
-        let right = [verdict.number().into(), verdict.leaf().into(), verdict.steps().into()];
+    /// With the number, leaf and steps that it was made to have.
+    fn hand_on(&mut self, what: &str, made: &Made, right: [u32; 3]) {
+        let right = right.map(u64::from);
         let broken = move |answer: &Answer| {
             let found = &answer.returned;
             (found[..] != right).then(|| format!("made to be {right:?}, and is {found:?}"))
