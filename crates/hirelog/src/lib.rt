@@ -25,8 +25,8 @@ pub extern "C" fn hirelog_sha256(message: &[u8], digest: &mut [u8; 32]) -> u32
 
 // The LMS signature check (document 01, "Digest and signature"; RFC 8554): 0 for good, 15 for bad, and 16,
 // before anything else, for a message of more than 16,777,216 bytes; with 0 also the number of the
-// signature's leaf (document 02, W5), with 15 and 16 leaf 0; with 0 and 15 the chain steps of the check (W7),
-// 0 where it does not come to the chains, with 16 none.
+// signature's leaf (document 02, W5), with 15 and 16 leaf 0; and the chain steps of the check (W7), 0 where
+// it does not come to the chains, as with 16.
 #[no_mangle]
 pub extern "C" fn hirelog_lms_check(key: &[u8], message: &[u8], signature: &[u8]) -> LmsAnswer
     ensures number { λ r. ⌜ r .number

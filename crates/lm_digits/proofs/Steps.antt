@@ -28,9 +28,10 @@ byte-counts = (refl, refl, refl, refl)
 
 -- the other widths: bytes FF, of which the checksum's chains alone have steps, and bytes 0
 width-counts : (steps (row 1 265 7) (replicate 32 255) ≡ 9) × (steps (row 2 133 6) (replicate 32 255) ≡ 15)
-    × (steps (row 4 67 4) (replicate 32 255) ≡ 45) × (steps (row 4 67 4) (replicate 32 0) ≡ 990)
+    × (steps (row 4 67 4) (replicate 32 255) ≡ 45) × (steps (row 1 265 7) (replicate 32 0) ≡ 264)
+    × (steps (row 2 133 6) (replicate 32 0) ≡ 396) × (steps (row 4 67 4) (replicate 32 0) ≡ 990)
 unfolding steps withChecksum checksum sum toLargest coef row messageDigits be
-width-counts = (refl, refl, refl, refl)
+width-counts = (refl, refl, refl, refl, refl, refl)
 
 -- ---- every width
 
@@ -52,7 +53,7 @@ unfolding checksum
 checksum-none o Q e = rw (e, zero-mul)
 
 -- the digits of the first bytes alone
-sum-first : (w : ℕ) → w * (8 / w) ≡ 8 → (Q t : List ℕ) (i : ℕ) → i * w ≤ 8 * length Q → sum w (Q ++ t) i ≡ sum w Q i
+pub sum-first : (w : ℕ) → w * (8 / w) ≡ 8 → (Q t : List ℕ) (i : ℕ) → i * w ≤ 8 * length Q → sum w (Q ++ t) i ≡ sum w Q i
 unfolding sum toLargest coef
 sum-first w whole Q t zero h = refl
 sum-first w whole Q t (suc i) h =

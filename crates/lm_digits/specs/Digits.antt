@@ -1,4 +1,5 @@
--- Digits of a byte string and their checksum, over the digit width w (RFC 8554, 3.1.3 and 4.4).
+-- Digits of a byte string, their checksum and the steps of all chains, over the digit width w (RFC 8554,
+-- 3.1.3, 4.4 and 4.6).
 use mathlib.Core.List.{List, _++_}
 use Prim.Native.Nat.{ℕ, zero, suc, _+_, _-_, _*_, _/_, _%_, _^_}
 use lib.ListN.{getD}

@@ -1,10 +1,12 @@
-// Digits of a hash value and their checksum (RFC 8554, 3.1.3 and 4.4).
+// Digits of a hash value, their checksum and the steps of all chains (RFC 8554, 3.1.3, 4.4 and 4.6).
 ghost use mathlib.Core.Path.{_≡_};
+ghost use mathlib.Core.List.{_++_};
 ghost use Prim.Native.Nat.{ℕ, _*_, _/_, _^_, _≤_, _<_};
 ghost use lib.ListN.{length, getD};
 ghost use Rattle.lm_digits.specs.Parameters.{messageDigits};
-ghost use Rattle.lm_digits.specs.Digits.{coef, sum, withChecksum};
-ghost use Rattle.lm_digits.specs.Listed.{chainsMost};
+ghost use Rattle.words.specs.BigEndian.{be};
+ghost use Rattle.lm_digits.specs.Digits.{coef, sum, withChecksum, steps};
+ghost use Rattle.lm_digits.specs.Listed.{Listed, chainsMost};
 use super::CHAINS_MOST;
 use super::Parameters;
 
@@ -35,16 +37,15 @@ fn message_digits(bits: u32) -> usize
 }
 
 // How far each of the first digits of a byte string is from the largest, added up (RFC 8554, 4.4,
-// algorithm 2): for the digits of Q the checksum before its shift, for all digits of Q || Cksm(Q) the
-// steps of all chains (4.6, algorithm 4b, step 3).
-pub fn digit_sum(s: &[u8], bits: u32, count: usize) -> u32
-    requires { ⌜ (bits * (8 / bits) ≡ 8) × (count ≤ chainsMost)
-        × ((i : ℕ) → i < count → i * bits / 8 < length (now s)) ⌝ }
+// algorithm 2), where the sum of those before a place is known.
+fn digit_sum(s: &[u8], bits: u32, from: usize, count: usize, before: u32) -> u32
+    requires { ⌜ (bits * (8 / bits) ≡ 8) × (from ≤ count) × (count ≤ chainsMost)
+        × ((i : ℕ) → i < count → i * bits / 8 < length (now s)) × (before ≡ sum bits (now s) from) ⌝ }
     ensures { λ r. ⌜ r ≡ sum bits (now (s .entry)) count ⌝ }
 {
     let largest: u32 = (1 << bits) - 1;
-    let mut total: u32 = 0;
-    let mut i = 0;
+    let mut total = before;
+    let mut i = from;
     while i < count {
         total += largest - digit(s, bits, i);
         i += 1;
@@ -52,12 +53,10 @@ pub fn digit_sum(s: &[u8], bits: u32, count: usize) -> u32
     total
 }
 
-// Q || Cksm(Q) (RFC 8554, 4.6, algorithm 4b, step 3).
-pub fn with_checksum(q: [u8; HASH_SIZE], o: Parameters) -> [u8; CHECKED_SIZE]
-    requires { ⌜ (o .bits * (8 / o .bits) ≡ 8) × (o .shift < 32) ⌝ }
-    ensures { λ r. ⌜ r ≡ withChecksum o q ⌝ }
+// Q, and the two lowest bytes of a checksum after it.
+fn join_checksum(q: [u8; HASH_SIZE], checksum: u32) -> [u8; CHECKED_SIZE]
+    ensures { λ r. ⌜ r ≡ q ++ be 2 checksum ⌝ }
 {
-    let checksum = digit_sum(&q, o.bits, message_digits(o.bits)) << o.shift;
     let mut s = [0u8; CHECKED_SIZE];
     let mut i = 0;
     while i < HASH_SIZE {
@@ -66,6 +65,28 @@ pub fn with_checksum(q: [u8; HASH_SIZE], o: Parameters) -> [u8; CHECKED_SIZE]
     }
     words::put_u16(&mut s, HASH_SIZE, (checksum % 65536) as u16);
     s
+}
+
+// Q || Cksm(Q), and the steps of all chains for it (document 02, W7).
+pub struct Checked {
+    pub bytes: [u8; CHECKED_SIZE],
+    pub steps: u32,
+}
+
+// Q || Cksm(Q) (RFC 8554, 4.6, algorithm 4b, step 3), with the steps: the sum over the digits of Q is the
+// checksum before its shift, and the steps are that sum over all digits.
+pub fn with_checksum(q: [u8; HASH_SIZE], o: Parameters) -> Checked
+    requires { ⌜ Listed o ⌝ }
+    ensures bytes { λ r. ⌜ r .bytes ≡ withChecksum o q ⌝ }
+    ensures steps { λ r. ⌜ r .steps ≡ steps o q ⌝ }
+{
+    let count = message_digits(o.bits);
+    let total = digit_sum(&q, o.bits, 0, count, 0);
+    let bytes = join_checksum(q, total << o.shift);
+    Checked {
+        bytes,
+        steps: digit_sum(&bytes, o.bits, count, o.chains, total),
+    }
 }
 
 // The first digits of a byte string, one for each of as many chains.

@@ -12,7 +12,6 @@ use Rattle.sha256.specs.declared.State.{State}
 use Rattle.sha256.specs.Sha256.{parse, wordsOf, bytesOf, sha256}
 use Rattle.lm_hash.specs.declared.Leaf.{Leaf}
 use Rattle.lm_hash.specs.Identifier.{identifier}
-use Rattle.lm_hash.specs.Tagged.{tagged}
 use Rattle.sha256.proofs.Blocks.{parse-at, bytes-parse}
 
 -- the n words at a place
@@ -67,6 +66,6 @@ pub length-bytes : (v : State) → length (bytesOf v) ≡ 32
 unfolding be bytesOf wordsOf flatMap
 length-bytes v = refl
 
-pub length-tagged : (I : List ℕ) (q d : ℕ) (rest : List ℕ) → length (tagged I q d rest) ≡ 32
-unfolding tagged sha256
-length-tagged I q d rest = length-bytes _
+pub length-digest : (m : List ℕ) → length (sha256 m) ≡ 32
+unfolding sha256
+length-digest m = length-bytes _

@@ -13,7 +13,7 @@ use Rattle.lm_digits.specs.Listed.{Listed}
 use Rattle.lm_ots.specs.Candidate.{end, ends}
 use Rattle.lm_chain_values.specs.Values.{valueAt}
 use Rattle.lm_digits.proofs.Widths.{width-le, pow-le, shifted-one}
-use Rattle.lm_digits.proofs.Figures.{known-few, known-width, known-follows, shift-lt, chain-digit}
+use Rattle.lm_digits.proofs.Figures.{known-few, known-width, known-follows, chain-digit}
 
 module _ (o : Parameters) (l : Listed o) where
   pub width : o .bits * (8 / o .bits) ≡ 8
@@ -21,9 +21,6 @@ module _ (o : Parameters) (l : Listed o) where
 
   pub few : o .chains ≤ 265
   few = known-few (l .number) (l .found)
-
-  pub shift-below : o .shift < 32
-  shift-below = shift-lt o width (known-follows (l .number) (l .found))
 
   pub digit-place : (i : ℕ) → i < o .chains → i * o .bits / 8 < 34
   digit-place = chain-digit o width (known-follows (l .number) (l .found))

@@ -46,8 +46,7 @@ pub struct KeyCandidate {
     pub steps: u32,
 }
 
-// Kc, from C and y[0] to y[p-1] one after the other, with the steps. They are counted from the digits, beside
-// the chains.
+// Kc, from C and y[0] to y[p-1] one after the other, with the steps, which are counted from the digits.
 pub fn candidate(leaf: Leaf, o: Parameters, message: &[u8], signature: &[u8]) -> KeyCandidate
     requires { ⌜ Listed o × (length (now message) ≤ limit)
         × (length (now signature) ≡ 32 * (o .chains + 1)) ⌝ }
@@ -59,12 +58,13 @@ pub fn candidate(leaf: Leaf, o: Parameters, message: &[u8], signature: &[u8]) ->
         (now (message .entry))) ⌝ }
 {
     let q = lm_hash::tagged_message(leaf, leaf.q, D_MESG, &signature[..32], message);
-    let s = digits::with_checksum(q.bytes(), o);
+    let checked = digits::with_checksum(q.bytes(), o);
+    let s = checked.bytes;
     let mut ends = [0u8; ENDS_MOST];
     put_ends(leaf, o, &s, &signature[32..], &mut ends);
     let n = 32 * o.chains;
     KeyCandidate {
         key: lm_hash::tagged(leaf, leaf.q, D_PBLC, &ends[..n]),
-        steps: digits::digit_sum(&s, o.bits, o.chains),
+        steps: checked.steps,
     }
 }

@@ -2,10 +2,10 @@
 -- Assumes nothing.
 use mathlib.Core.Path.{_≡_, refl}
 use mathlib.Core.Bool.{true, false}
-use mathlib.Core.List.{List, [], _++_}
+use mathlib.Core.List.{List, [], _∷_, _++_}
 use Prim.Native.Nat.{ℕ, _<_}
 use borrow.Author.Tests.{lt-ltb}
-use lib.ListN.{length, drop, replicate}
+use lib.ListN.{length, replicate}
 use Rattle.words.specs.BigEndian.{be, number, numberAt}
 use Rattle.sha256.specs.Service.{limit, tooLong}
 use Rattle.lm_digits.specs.Parameters.{row, oneTime}
@@ -27,12 +27,12 @@ unfolding reached tooLong typed oneTime height formed signatureLength pathAt one
 last-leaf = refl
 
 wrong-forms : (reached (keyOf 5 4) [] (signatureOf 32 4 5) ≡ false) × (reached (keyOf 5 4) [] (signatureOf 31 3 5) ≡ false)
-    × (reached (keyOf 5 4) [] (signatureOf 31 4 6) ≡ false) × (reached (keyOf 5 4) [] (drop 1 (signatureOf 31 4 5)) ≡ false)
-    × (reached (drop 1 (keyOf 5 4)) [] (signatureOf 31 4 5) ≡ false) × (reached (keyOf 5 5) [] (signatureOf 31 5 5) ≡ false)
+    × (reached (keyOf 5 4) [] (signatureOf 31 4 6) ≡ false) × (reached (keyOf 5 4) [] (signatureOf 31 4 5 ++ (9 ∷ [])) ≡ false)
+    × (reached (keyOf 5 4 ++ (7 ∷ [])) [] (signatureOf 31 4 5) ≡ false) × (reached (keyOf 5 5) [] (signatureOf 31 5 5) ≡ false)
     × (reached (keyOf 4 4) [] (signatureOf 31 4 4) ≡ false)
 unfolding reached tooLong typed oneTime height formed signatureLength pathAt oneTimeBytes row keyOf signatureOf numberAt number be
 wrong-forms = (refl, refl, refl, refl, refl, refl, refl)
 
-long-message : (key message signature : List ℕ) → limit < length message → reached key message signature ≡ false
+long-unreached : (key message signature : List ℕ) → limit < length message → reached key message signature ≡ false
 unfolding reached tooLong
-long-message key message signature h = rw (lt-ltb _ _ h)
+long-unreached key message signature h = rw (lt-ltb _ _ h)

@@ -3,3 +3,4 @@ mod Examples
 pub mod Figures
 pub mod Leaves
 pub mod Steps
+mod Strength

@@ -5,7 +5,7 @@ use mathlib.Core.Path.{_≡_, refl, sym, _∙_}
 use mathlib.Core.Bool.{Bool, true, false, cond, false≢true}
 use mathlib.Core.List.{List}
 use mathlib.Core.Logic.{_⊎_, inl, inr, ⊎-elim}
-use Prim.Native.Nat.{ℕ, _+_, _-_, _*_, _/_, _^_, _≤_, _<_}
+use Prim.Native.Nat.{ℕ}
 use native.Mathlib.Omega.{arith}
 use lib.Dec.{eqb}
 use lib.ListN.{length}
@@ -16,18 +16,18 @@ use Rattle.lm_digits.specs.declared.Parameters.{Parameters}
 use Rattle.lm_digits.specs.declared.OneTime.{OneTime}
 use Rattle.lm_digits.specs.declared.OneTime.the-variants.{Known, Unknown as NoType}
 use Rattle.lm_digits.specs.Parameters.{oneTime, byteDigits}
-use Rattle.lm_digits.specs.Listed.{Listed}
-use Rattle.lm_digits.specs.Digits.{checksum, steps}
+use Rattle.lm_digits.specs.Digits.{steps}
 use Rattle.lm_digits.proofs.Steps.{steps-le, steps-some, steps-bytes, steps-range}
 use Rattle.lm_format.specs.declared.Height.{Height}
 use Rattle.lm_format.specs.declared.Height.the-variants.{Levels, Unknown}
 use Rattle.lm_format.specs.Format.{height, keySize}
 use Rattle.lm_format.specs.Formed.{formed}
-use Rattle.lm_hash.proofs.Values.{length-tagged}
+use Rattle.lm_hash.specs.Tagged.{tagged}
+use Rattle.lm_hash.proofs.Values.{length-digest}
 use Rattle.lm_ots.specs.Candidate.{messageHash}
 use Rattle.lm_answer.specs.declared.Answer.the-variants.{Long}
 use Rattle.lm_answer.specs.Number.{answerSteps}
-use Rattle.lms.specs.Check.{hashOf, stepsTaken, typed, keyed, good, stepsOf, verdict, answer}
+use Rattle.lms.specs.Check.{hashOf, stepsTaken, typed, good, stepsOf, verdict, answer}
 use Rattle.lms.specs.Steps.{reached, StepsCounted}
 
 known-one : {o p : Parameters} → Known o ≡ Known p → o ≡ p
@@ -78,8 +78,8 @@ module _ (key message sig : List ℕ) where
   -- ---- the claim
 
   length-hash : length (hashOf key message sig) ≡ 32
-  unfolding hashOf messageHash
-  length-hash = length-tagged _ _ _ _
+  unfolding hashOf messageHash tagged
+  length-hash = length-digest _
 
   module _ {n : ℕ} (t : Told (reached key message sig) n) where
     counted : reached key message sig ≡ true → Counted n
@@ -109,18 +109,3 @@ module _ (key message sig : List ℕ) where
 
   pub steps-counted : StepsCounted key message sig (answerSteps (answer key message sig))
   steps-counted = claimed told
-
-  -- ---- what the claim gives by itself
-
-  module _ {n : ℕ} (claim : StepsCounted key message sig n) where
-    -- a count of 0 tells that the chains were not reached
-    pub zero-unreached : n ≡ 0 → reached key message sig ≡ false
-    zero-unreached z =
-        ⊎-elim (λ e. let more = claim .some e in absurd (omega arith)) (λ e. e) (look (reached key message sig))
-
-    -- for 8-bit digits a checksum of k times 256, and any up to 255 above it, has one count
-    pub whole-counted : reached key message sig ≡ true → oneTime (numberAt 4 key 4) ≡ Known byteDigits
-        → (k r : ℕ) → r < 256 → checksum byteDigits (hashOf key message sig) ≡ 256 * k + r → n ≡ 510 + 255 * k
-    whole-counted e t k r less sum =
-        let whole : checksum byteDigits (hashOf key message sig) / 256 ≡ k = omega arith in
-        claim .bytes e t ∙ rw whole

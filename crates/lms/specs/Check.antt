@@ -44,13 +44,13 @@ module _ (o : Parameters) (h : ℕ) (key message signature : List ℕ) where
   unfoldable pub stepsTaken : ℕ
   stepsTaken = cond (formed o h key signature) (steps o (hashOf key message signature)) 0
 
--- algorithm 6, step 2: what is asked for the key's types, or what else is given where one is not listed
+-- algorithm 6, step 2: f of what the key's types stand for, or `other` where one is not listed
 unfoldable pub typed : {A : Type 0} → A → (Parameters → ℕ → A) → OneTime → Height → A
 typed other f NoType t = other
 typed other f (Known o) Unknown = other
 typed other f (Known o) (Levels h) = f o h
 
--- algorithm 6, steps 1 and 2: the same, where the key has its length
+-- algorithm 6, steps 1 and 2: the same of a key, or `other` where its length is wrong
 abbrev pub keyed : {A : Type 0} → A → (Parameters → ℕ → A) → List ℕ → A
 keyed other f key =
     cond (eqb (length key) keySize)

@@ -2,7 +2,7 @@
 -- taken apart field by field, since each field has its width.
 -- Assumes nothing.
 use mathlib.Core.Path.{_≡_, refl, sym, ap, ap₂, _∙_}
-use mathlib.Core.List.{List, [], _∷_, _++_, flatMap, List·Memᴰ·head, List·Memᴰ·tail}
+use mathlib.Core.List.{List, [], _∷_, _++_, List·Memᴰ·head, List·Memᴰ·tail}
 use Prim.Native.Nat.{ℕ, suc, _+_}
 use native.Mathlib.Nat.{suc-inj}
 use native.Mathlib.Omega.{arith}
@@ -10,7 +10,7 @@ use lib.ListN.{length, take, drop, replicate, length-append}
 use lib.Seq.{take-at, drop-at}
 use Rattle.words.specs.BigEndian.{be}
 use Rattle.words.proofs.Laws.{length-be, be-injective}
-use Rattle.sha256.specs.Sha256.{sha256, bytesOf, wordsOf}
+use Rattle.sha256.specs.Sha256.{sha256}
 use Rattle.log_chain.specs.Log.{Form, Record, chainString, pointerFrom, pointer, chainFrom, chainStrings}
 use Rattle.log_chain.specs.Apart.{Apart}
 use Rattle.log_chain.proofs.Fits.{RecordFits, LogFits, more}
@@ -22,10 +22,6 @@ field n s₁ t₁ s₂ t₂ l₁ l₂ e = (
   sym (take-at s₁ t₁ n l₁) ∙ ap (take n) e ∙ take-at s₂ t₂ n l₂,
   sym (drop-at s₁ t₁ n l₁) ∙ ap (drop n) e ∙ drop-at s₂ t₂ n l₂,
 )
-
-pub length-digest : (m : List ℕ) → length (sha256 m) ≡ 32
-unfolding sha256 bytesOf wordsOf flatMap be
-length-digest m = refl
 
 pub length-two : (a b : List ℕ) (m n : ℕ) → length a ≡ m → length b ≡ n → length (a ++ b) ≡ m + n
 length-two a b m n ea eb = length-append a b ∙ ap₂ _+_ ea eb

@@ -15,7 +15,8 @@ use Rattle.log_chain.specs.Sizes.{placeStatement}
 use Rattle.log_chain.specs.Apart.{Apart}
 use Rattle.log_chain.proofs.Pointers.{pointer-form}
 use Rattle.log_chain.proofs.Fits.{PlaceFits, BallotFits, ClaimFits}
-use Rattle.log_chain.proofs.Injective.{field, length-two, length-digest, pointer-injective}
+use Rattle.lm_hash.proofs.Values.{length-digest}
+use Rattle.log_chain.proofs.Injective.{field, length-two, pointer-injective}
 
 -- the chain strings of the log that a claim speaks of
 unfoldable pub stringsOf : Form → Claim → List (List ℕ)

@@ -1,7 +1,7 @@
 -- One digit a turn, and the sum of at most 265 digits fits.
 -- Assumes nothing.
 use Prim.Native.Nat.{_-_, _≤_}
-use mathlib.Core.Path.{_≡_, refl, ap, _∙_}
+use mathlib.Core.Path.{_≡_, ap, _∙_}
 use native.Mathlib.Numerals.{add-one}
 use native.Mathlib.Omega.{arith}
 use lib.Pow.{pow-pos}
@@ -12,10 +12,10 @@ use Rattle.lm_digits.proofs.digits.digit_sum.Statement.{statement}
 use Rattle.lm_digits.proofs.digits.digit_sum.Tie as tie
 
 abbrev Inv-loop : tie.InvT-loop
-Inv-loop s bits count largest total₀ i₀ total i = (i ≤ count) × (total ≡ sum bits s i)
+Inv-loop s bits from count before largest total₀ i₀ total i = (i ≤ count) × (total ≡ sum bits s i)
 
 abbrev μ-loop : tie.MeasureT-loop
-μ-loop s bits count largest total₀ i₀ total i = count - i
+μ-loop s bits from count before largest total₀ i₀ total i = count - i
 
 shl-largest : tie.Need-shl-largest Inv-loop μ-loop
 shl-largest c = omega (arith, width-le _ (c .before .pre .0))
@@ -24,13 +24,12 @@ sub-largest : tie.Need-sub-largest Inv-loop μ-loop
 sub-largest c = rw (shifted-one _ (c .before .pre .0)) (pow-pos _)
 
 loop-holds : tie.Need-loop-holds Inv-loop μ-loop
-unfolding sum
-loop-holds c = (omega arith, refl)
+loop-holds c = (c .before .pre .1, c .before .pre .4)
 
 digit-requires : tie.Need-digit-requires Inv-loop μ-loop
 digit-requires c κs =
     let start = c .before .before .before in
-    (start .pre .0, start .pre .2 (c .before .loop .i) (c .loop-test .taken))
+    (start .pre .0, start .pre .3 (c .before .loop .i) (c .loop-test .taken))
 
 sub-total : tie.Need-sub-total Inv-loop μ-loop
 sub-total c = omega (arith, shifted-one _ (c .before .before .before .before .pre .0), c .digit .ensures .1)
@@ -41,10 +40,10 @@ add-total c =
     let whole = start .pre .0 in
     let a = start .args in
     let l = c .before .before .loop in
-    omega (arith, start .pre .1, pow-le _ whole, sum-small _ whole (a .s .now) (l .i))
+    omega (arith, start .pre .2, pow-le _ whole, sum-small _ whole (a .s .now) (l .i))
 
 add-i : tie.Need-add-i Inv-loop μ-loop
-add-i c = omega (arith, c .before .before .before .before .pre .1)
+add-i c = omega (arith, c .before .before .before .before .pre .2)
 
 loop-less : tie.Need-loop-less Inv-loop μ-loop
 loop-less c = omega arith

@@ -1,108 +1,109 @@
--- The bytes are copied one a turn, and the checksum's lowest two stored after them.
+-- The checksum is the sum over the digits of Q, which stand first in Q || Cksm(Q) too: the second sum goes on from there.
 -- Assumes nothing.
-use Prim.Native.Nat.{ℕ, _+_, _-_, _*_, _/_, _%_, _^_, _≤_, _<_}
+use Prim.Native.Nat.{ℕ, _*_, _/_, _%_, _^_}
 use mathlib.Core.Path.{_≡_, refl, sym, ap, _∙_}
-use mathlib.Core.List.{append-nil}
-use native.Mathlib.Numerals.{add-one}
+use mathlib.Core.List.{List, _++_}
 use native.Mathlib.Omega.{arith}
 use borrow.Author.Needs.{needs}
-use lib.ListN.{length, getD, take, length-set, drop-of-length-le}
-use lib.Seq.{take-suc, take-suc-set, take-all, sets, sets-eq}
+use lib.ListN.{length}
 use Rattle.words.specs.BigEndian.{be}
-use Rattle.words.proofs.Laws.{length-be}
-use Rattle.lm_digits.specs.Digits.{sum, checksum, withChecksum}
+use Rattle.lm_digits.specs.Parameters.{messageDigits}
+use Rattle.lm_digits.specs.Digits.{sum, checksum, withChecksum, steps}
 use Rattle.lm_digits.proofs.Widths.{digit-inside, message-fits, message-few}
+use Rattle.lm_digits.proofs.Figures.{known-width, known-few, known-follows, known-message, shift-lt, chain-digit}
+use Rattle.lm_digits.proofs.Steps.{sum-first}
 use Rattle.lm_digits.proofs.digits.with_checksum.Statement.{statement}
 use Rattle.lm_digits.proofs.digits.with_checksum.Tie as tie
 
--- the two bytes of a number, from its lowest 32 bits
-lowest-two : (n : ℕ) → be 2 (n % 4294967296 % 65536) ≡ be 2 n
+-- the two lowest bytes of a number, from its lowest 32 bits
+lowest-two : (n : ℕ) → be 2 (n % 4294967296) ≡ be 2 n
 unfolding be
 lowest-two n =
-    let high : n % 4294967296 % 65536 / 256 % 256 ≡ n / 256 % 256 = omega arith in
-    let low : n % 4294967296 % 65536 / 1 % 256 ≡ n / 1 % 256 = omega arith in
+    let high : n % 4294967296 / 256 % 256 ≡ n / 256 % 256 = omega arith in
+    let low : n % 4294967296 / 1 % 256 ≡ n / 1 % 256 = omega arith in
     rw (high, low)
 
-abbrev Inv-loop : tie.InvT-loop
-Inv-loop q sum s₀ i₀ s i = (i ≤ 32) × (length s ≡ 34) × (take i s ≡ take i q)
+-- ---- after Q || Cksm(Q) is made
 
-abbrev μ-loop : tie.MeasureT-loop
-μ-loop q sum s₀ i₀ s i = 32 - i
+module _ (c : tie.After-join-checksum) where
+  abbrev start : tie.Start
+  start = c .before .before .before .before .before
 
-digit-sum-requires : tie.Need-digit-sum-requires Inv-loop μ-loop
+  abbrev q : List ℕ
+  q = start .args .t1
+
+  abbrev w : ℕ
+  w = start .args .o .bits
+
+  whole : w * (8 / w) ≡ 8
+  whole = known-width (start .pre .number) (start .pre .found)
+
+  count : c .before .before .before .before .message-digits .result ≡ messageDigits w
+  count = c .before .before .before .before .message-digits .ensures
+
+  total : c .before .before .digit-sum .result ≡ sum w q (messageDigits w)
+  total = c .before .before .digit-sum .ensures ∙ ap (sum w q) count
+
+  joined : c .join-checksum .result ≡ withChecksum (start .args .o) q
+  unfolding withChecksum checksum
+  joined =
+      c .join-checksum .ensures
+      ∙ ap (λ (n : ℕ). q ++ be 2 (n * 2 ^ start .args .o .shift % 4294967296)) total
+      ∙ ap (λ (two : List ℕ). q ++ two) (lowest-two _)
+
+-- ---- the needs
+
+message-digits-requires : tie.Need-message-digits-requires
+message-digits-requires c κs = known-width (c .pre .number) (c .pre .found)
+
+digit-sum-requires : tie.Need-digit-sum-requires
+unfolding sum
 digit-sum-requires c κs =
     let start = c .before .before in
-    let whole = start .pre .0 in
     let w = start .args .o .bits in
-    let count = c .message-digits .ensures in
+    let whole = known-width (start .pre .number) (start .pre .found) in
+    let count = c .before .message-digits .ensures in
     let inside : length (start .args .t1) ≡ 32 = search needs in
-    (whole, rw count (omega (arith, message-few w)), λ i h. rw inside (digit-inside w whole _ 32 (rw count (message-fits w whole)) i h))
+    (whole, omega arith, rw count (omega (arith, message-few w)), λ i h. rw inside (digit-inside w whole _ 32 (rw count (message-fits w whole)) i h), refl)
 
-loop-holds : tie.Need-loop-holds Inv-loop μ-loop
-loop-holds c = (search needs, refl, refl)
+shl-join-checksum : tie.Need-shl-join-checksum
+shl-join-checksum c =
+    let start = c .before .before .before .before in
+    shift-lt (start .args .o) (known-width (start .pre .number) (start .pre .found)) (known-follows (start .pre .number) (start .pre .found))
 
-array-write-s : tie.Need-array-write-s Inv-loop μ-loop
-array-write-s c = omega arith
-
-add-i : tie.Need-add-i Inv-loop μ-loop
-add-i c = omega arith
-
-loop-less : tie.Need-loop-less Inv-loop μ-loop
-loop-less c = omega arith
-
-loop-again : tie.Need-loop-again Inv-loop μ-loop
-loop-again c =
-    let l = c .before .loop in
-    let q = c .before .before .before .before .before .before .args .t1 in
-    let inside : l .i < length q = search needs in (
-      omega arith,
-      simp length-set (l .inv .1),
-      rw (add-one, take-suc-set (l .s) (l .i) (getD q (l .i) 0) (omega arith), l .inv .2, ← take-suc q (l .i) 0 inside),
+digit-sum-requires-2 : tie.Need-digit-sum-requires-2
+unfolding withChecksum
+digit-sum-requires-2 c κs =
+    let b = c .before in
+    let p = start b .pre in
+    let o = start b .args .o in
+    let long : length (q b) ≡ 32 = search needs in
+    let size : length (b .join-checksum .result) ≡ 34 = search needs in
+    let fits = known-message (p .number) (p .found) in (
+      whole b,
+      omega (arith, count b, fits .1),
+      omega (arith, count b, fits .1, known-few (p .number) (p .found)),
+      λ i h. rw size (chain-digit o (whole b) (known-follows (p .number) (p .found)) i (omega (arith, h, count b, fits .1))),
+      total b ∙ sym (sum-first (w b) (whole b) (q b) (be 2 (checksum o (q b))) (messageDigits (w b)) (omega (arith, fits .0, long)))
+          ∙ ap (λ (s : List ℕ). sum (w b) s (messageDigits (w b))) (sym (joined b))
+          ∙ ap (sum (w b) (b .join-checksum .result)) (sym (count b)),
     )
 
-slice-aggregate-put-u16 : tie.Need-slice-aggregate-put-u16 Inv-loop μ-loop
-slice-aggregate-put-u16 c = sym (c .before .before .loop .inv .1)
-
-put-u16-requires : tie.Need-put-u16-requires Inv-loop μ-loop
-put-u16-requires c κs = omega arith
-
-returns : tie.Need-returns Inv-loop μ-loop
-unfolding withChecksum checksum
+returns : tie.Need-returns
+unfolding steps
 returns c =
-    let called = c .before .before .before .before .before .before in
-    let start = called .before .before .before in
-    let q = start .args .t1 in
-    let o = start .args .o in
-    let l = c .before .before .before .before .loop in
-    let long : length q ≡ 32 = search needs in
-    let end : l .i ≡ 32 = omega arith in
-    let copied : take 32 (l .s) ≡ q = (rw end at (l .inv .2)) ∙ take-all 32 q (omega arith) in
-    let total = called .digit-sum .ensures ∙ ap (sum (o .bits) q) (called .before .message-digits .ensures) in
-    let two = be 2 (checksum o q) in
-    let pair : length two ≡ 2 = length-be 2 (checksum o q) in
-    c .before .put-u16 .ensures
-    ∙ ap (λ (n : ℕ). sets (l .s) 32 (be 2 (n * 2 ^ o .shift % 4294967296 % 65536))) total
-    ∙ ap (sets (l .s) 32) (lowest-two (checksum o q))
-    ∙ sets-eq two (l .s) 32 (omega arith)
-    ∙ rw (copied, drop-of-length-le (l .s) {i = 32 + length two} (omega arith), append-nil)
+    let b = c .before .before in
+    (joined b, c .digit-sum2 .ensures ∙ ap (λ (s : List ℕ). sum (w b) s (start b .args .o .chains)) (joined b))
 
 pub with-checksum-spec : {M : Type 1} → statement M
 with-checksum-spec =
     tie.close
     (tie.spec
-    Inv-loop
-    μ-loop
+    message-digits-requires
     (λ c. search needs)
-    (λ c κs. c .before .pre .0)
     digit-sum-requires
+    shl-join-checksum
+    (λ c κs. search needs)
     (λ c. search needs)
-    loop-holds
-    (λ c. search needs)
-    array-write-s
-    add-i
-    loop-less
-    loop-again
-    slice-aggregate-put-u16
-    (λ c. search needs)
-    put-u16-requires
+    digit-sum-requires-2
     returns)
