@@ -3,8 +3,8 @@
  *
  * The folder has files for one call (works.h); their signatures are of one height and of one-time
  * type 4. Of those with one count of steps the first is measured. In each round each of these is
- * checked once, one after the other, on one processor; the least time over all rounds counts. A bad
- * signature, or of one that is measured another count than portable C takes, is an error.
+ * checked once, one after the other, on one processor; the least time over all rounds counts. It is
+ * an error if a signature is bad, or if portable C takes another count for one that is measured.
  *
  * Through the times a line is laid, by least squares: what a step takes, and what a check takes
  * besides its steps.
@@ -142,6 +142,8 @@ int main(int argc, char **argv)
         return 1;
     }
     size_t count = take_all(argv[2]);
+    if (count == 0)
+        stop("there is no signature to check in ", argv[2]);
     stay();
     for (int round = 0; round < rounds; round++)
         for (struct point *p = points; p < points + COUNTS; p++)

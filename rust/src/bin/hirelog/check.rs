@@ -26,10 +26,10 @@ was signed, SIGNATURE the signature. It prints two lines. The first is one of
 
 and the second
 
-  steps N       how many hashes the check makes in the signature's chains, by
-                which its time goes. It makes them for a bad signature too,
-                unless a length, a type or the leaf number is wrong: N is then
-                0, as with a long message
+  steps N       how many hashes the check makes in the signature's chains; with
+                8-bit digits, as in a roster, they take most of its time. It
+                makes them for a bad signature too, unless a length, a type or
+                the leaf number is wrong: N is then 0, as with a long message
 
 A leaf is for one message: a board whose good signatures on two messages have
 one Q under one key has used it twice. hirelog audit looks for that.
@@ -117,7 +117,9 @@ fn steps_remark(verdict: Verdict, line: &str) -> Remark {
     );
     let (meaning, advice) = match verdict {
         Verdict::Good { .. } => {
-            (taken, "Nothing. It is for planning: the time of a check goes by it.".into())
+            let advice = "Nothing. It is for planning: with 8-bit digits, as in a roster, a check's \
+                          time is nearly that of its steps.";
+            (taken, advice.into())
         }
         Verdict::Bad { steps: 0 } => (
             "The check ended before the signature's chains: the length of key or signature, a type \
