@@ -10,18 +10,10 @@ use Rattle.words.specs.BigEndian.{be}
 use Rattle.lm_digits.specs.Parameters.{messageDigits}
 use Rattle.lm_digits.specs.Digits.{sum, checksum, withChecksum, steps}
 use Rattle.lm_digits.proofs.Widths.{digit-inside, message-fits, message-few}
-use Rattle.lm_digits.proofs.Figures.{known-width, known-few, known-follows, known-message, shift-lt, chain-digit}
+use Rattle.lm_digits.proofs.Figures.{known-width, known-few, known-follows, known-message, checksum-fits, shift-lt, chain-digit}
 use Rattle.lm_digits.proofs.Steps.{sum-first}
 use Rattle.lm_digits.proofs.digits.with_checksum.Statement.{statement}
 use Rattle.lm_digits.proofs.digits.with_checksum.Tie as tie
-
--- the two lowest bytes of a number, from its lowest 32 bits
-lowest-two : (n : ℕ) → be 2 (n % 4294967296) ≡ be 2 n
-unfolding be
-lowest-two n =
-    let high : n % 4294967296 / 256 % 256 ≡ n / 256 % 256 = omega arith in
-    let low : n % 4294967296 / 1 % 256 ≡ n / 1 % 256 = omega arith in
-    rw (high, low)
 
 -- ---- after Q || Cksm(Q) is made
 
@@ -44,12 +36,16 @@ module _ (c : tie.After-join-checksum) where
   total : c .before .before .digit-sum .result ≡ sum w q (messageDigits w)
   total = c .before .before .digit-sum .ensures ∙ ap (sum w q) count
 
+  -- the shift loses nothing
+  shifted : checksum (start .args .o) q % 4294967296 ≡ checksum (start .args .o) q
+  shifted = omega (arith, checksum-fits (start .args .o) whole (known-follows (start .pre .number) (start .pre .found)) q)
+
   joined : c .join-checksum .result ≡ withChecksum (start .args .o) q
   unfolding withChecksum checksum
   joined =
       c .join-checksum .ensures
       ∙ ap (λ (n : ℕ). q ++ be 2 (n * 2 ^ start .args .o .shift % 4294967296)) total
-      ∙ ap (λ (two : List ℕ). q ++ two) (lowest-two _)
+      ∙ ap (λ (n : ℕ). q ++ be 2 n) shifted
 
 -- ---- the needs
 
