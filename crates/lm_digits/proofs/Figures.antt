@@ -5,7 +5,7 @@ use mathlib.Core.Path.{_≡_, refl, ap}
 use mathlib.Core.Bool.{Bool, true, false, cond}
 use mathlib.Core.List.{List, [], _∷_}
 use Prim.Native.Nat.{ℕ, zero, suc, _+_, _-_, _*_, _/_, _^_, _≤_, _<_}
-use native.Mathlib.Nat.{le-trans, lt-of-lt-of-le, le-of-suc-le-suc, lt-of-not-le, suc-mul, mul-comm, mul-assoc, add-mul, mul-le-mul, mul-le-mul-left, mul-le-mul-right, mod-lt, div-le-self, div-add-mod', div-lt-iff-lt-mul}
+use native.Mathlib.Nat.{le-trans, lt-of-lt-of-le, le-of-suc-le-suc, lt-of-not-le, suc-mul, mul-comm, mul-assoc, add-mul, mul-le-mul, mul-le-mul-left, mul-le-mul-right, mod-lt, div-add-mod', div-lt-iff-lt-mul}
 use native.Mathlib.Omega.{arith}
 use lib.Dec.{eqb, lit≤, lit<}
 use lib.Pow.{pow-pos, pow-mono, shl-lt}
@@ -14,7 +14,7 @@ use Rattle.lm_digits.specs.declared.OneTime.{OneTime}
 use Rattle.lm_digits.specs.declared.OneTime.the-variants.{Known, Unknown}
 use Rattle.lm_digits.specs.Parameters.{row, oneTime, messageDigits, Follows}
 use Rattle.lm_digits.specs.Digits.{coef, toLargest, sum, checksum}
-use Rattle.lm_digits.proofs.Widths.{width-pos, pow-le, digit-inside, message-fits}
+use Rattle.lm_digits.proofs.Widths.{width-pos, pow-le, digit-inside, message-fits, message-few}
 
 -- ---- digits and their sum
 
@@ -39,7 +39,7 @@ sum-small w whole s i = le-trans (sum-le w s i) (mul-le-mul-left i (largest-le w
 length-le : (w length : ℕ) → w * (8 / w) ≡ 8 → 2 ^ (length - 1) ≤ (2 ^ w - 1) * messageDigits w → length ≤ 16
 unfolding messageDigits
 length-le w length whole least =
-    let most : (2 ^ w - 1) * (256 / w) ≤ 255 * 256 = mul-le-mul (largest-le w whole) (div-le-self 256 w) in
+    let most : (2 ^ w - 1) * (256 / w) ≤ 255 * 256 = mul-le-mul (largest-le w whole) (message-few w) in
     le-of-suc-le-suc (lt-of-not-le (λ (h : 17 ≤ length). omega (arith, pow-mono {i = 16} {j = length - 1} (omega arith))))
 
 module _ (w length : ℕ) (whole : w * (8 / w) ≡ 8) where
