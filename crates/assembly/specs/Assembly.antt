@@ -2,7 +2,7 @@
 -- length and output for every input.
 use Rattle.std.specs.Prelude.{Bool, cond, List, [], ◌∷◌, map, ℕ, ◌/◌, ◌%◌, eqb, leb, length}
 use Rattle.std.proofs.Math.Option
-use Rattle.std.proofs.Math.Option.{Option, Option·elim, get_or}
+use Rattle.std.proofs.Math.Option.{Option, Option-elim, get_or}
 use Rattle.words.specs.Over.{over}
 use Rattle.refusal.specs.Checks.{all, check, refusal, first}
 use Rattle.roster.specs.Roster.{signature_size, roster_number}
@@ -74,7 +74,7 @@ module _ (roster log item_bytes output : List ℕ) where
   -- 20: some term has no candidate; 21: the output is too small
   unfoldable pub output_number : ℕ
   output_number =
-      Option·elim (assembled roster log item_bytes) 20
+      Option-elim (assembled roster log item_bytes) 20
       (λ s. refusal (check 21 (leb (length s) (length output)) ∷ []))
 
   -- 2 to 4, 8, 11, 19, 20, 21: the first that applies, or 0

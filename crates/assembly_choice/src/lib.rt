@@ -1,5 +1,7 @@
 // The leaders (document 02, W3): for each term of a log the lowest-numbered candidate with a quorum of votes,
 // its own among them, and a stamp. Candidates are tried from n down, and the last one that will do stays.
+#![tactic(auto)]
+
 ghost use Rattle.std.specs.Prelude.{◌≡◌, List, ℕ, ◌-◌, ◌*◌, ◌≤◌, ◌<◌, length};
 ghost use Rattle.roster.specs.Roster.{cluster, replicas};
 ghost use Rattle.log_chain.specs.Log.{with_terms};
@@ -16,7 +18,7 @@ use roster::REPLICAS_MOST;
 use submission_trailer::LEADER_MOST;
 
 // The widths of the bag's items, and the number of terms.
-#[derive(Drop)]
+#[derive(Clone, Copy)]
 pub struct Terms {
     pub width: usize,
     pub size: usize,

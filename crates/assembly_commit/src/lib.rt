@@ -1,5 +1,7 @@
 // The commit (document 02, W3): the highest index with a quorum of receipts that fit the log. Indexes are
 // tried from the last down, so that a bag with receipts for every record costs those of one index.
+#![tactic(auto)]
+
 ghost use Rattle.std.specs.Prelude.{◌≡◌, ◌≤◌, length};
 ghost use Rattle.log_checkpoints.specs.Checkpoints.{Checkpoints, table_size};
 ghost use Rattle.roster.specs.Sizes.{replicas_most};
@@ -16,7 +18,7 @@ const CHECKPOINTS_ROOM: usize = log_chain::POINTER_SIZE
     * (RECORD_MOST / log_checkpoints::SPACING + 1);
 
 // The widths of the bag's items, and the number of records.
-#[derive(Drop)]
+#[derive(Clone, Copy)]
 pub struct LogSizes {
     pub width: usize,
     pub size: usize,

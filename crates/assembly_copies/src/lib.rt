@@ -1,6 +1,8 @@
 // The copies that count (document 02, W3): one walk over the bag finds, for each of some statements and each
 // replica, the first item with a good signature. Where the statements differ, each item's signature is
 // checked at most once in a walk.
+#![tactic(auto)]
+
 ghost use Rattle.std.specs.Prelude.{◌≡◌, true, false, ℕ, ◌+◌, ◌*◌, ◌≤◌, ◌<◌, length, get_or};
 ghost use Rattle.sha256.specs.Service.{limit};
 ghost use Rattle.roster.specs.Roster.{replicas, roster_number};
@@ -25,7 +27,7 @@ pub const TAKEN_SIZE: usize = PLACES_AT + REPLICAS_MOST;
 
 // The statements that a walk looks for: how many bytes all begin with, how many are each one's own, and how
 // many statements there are; with the widths of the bag's items.
-#[derive(Drop)]
+#[derive(Clone, Copy)]
 pub struct Sought {
     pub width: usize,
     pub size: usize,

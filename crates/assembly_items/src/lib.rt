@@ -1,5 +1,7 @@
 // The items of a bag (document 02, W3): the reader, which gives where an item's parts stand, or a refusal;
 // and check 19. Over the term's width and the signature's length.
+#![tactic(auto)]
+
 ghost use Rattle.std.specs.Prelude.{◌≡◌, ◌≤◌, length};
 ghost use Rattle.words.specs.Widths.{width_most};
 ghost use Rattle.roster.specs.Sizes.{signature_most};
@@ -11,7 +13,7 @@ ghost use Rattle.assembly_items.specs.Reader.{item_reading};
 const STATEMENT_AT: usize = 2;
 
 // An item: its replica, where its statement and its signature stand, and where the next item begins.
-#[derive(Drop)]
+#[derive(Clone, Copy)]
 pub struct ItemPlace {
     pub replica: u16,
     pub statement: usize,
@@ -20,7 +22,7 @@ pub struct ItemPlace {
 }
 
 // An item that was read.
-#[derive(Drop)]
+#[derive(Clone, Copy)]
 pub enum ItemReading {
     Read(ItemPlace),
     Refused,

@@ -1,5 +1,7 @@
 // Assembling a submission (document 02, W3): the checks in order, then what is taken from the bag, and only
 // when 20 and 21 are known a byte of the output is written.
+#![tactic(auto)]
+
 ghost use Rattle.std.specs.Prelude.{◌≡◌, ◌+◌, ◌*◌, ◌≤◌, length, take, drop};
 ghost use Rattle.words.specs.Widths.{width_most};
 ghost use Rattle.roster.specs.Sizes.{signature_most};
@@ -29,7 +31,7 @@ const STAMPS_ROOM: usize = assembly_terms::STAMP_HEAD + PLACE_SIZE * LEADER_MOST
 const TAKEN_ROOM: usize = TAKEN_SIZE * (LEADER_MOST + 1);
 
 // The number of terms, each with a leader; or some term has none.
-#[derive(Drop)]
+#[derive(Clone, Copy)]
 enum Leaders {
     All(usize),
     Missing,

@@ -1,5 +1,7 @@
 // The statements that are looked for in a bag, for the terms of a log (document 02, W3): tables of votes and
 // stamps, from one walk over the log. Over the term's width.
+#![tactic(auto)]
+
 ghost use Rattle.std.specs.Prelude.{◌≡◌, [], ◌++◌, ◌*◌, ◌^◌, ◌≤◌, ◌<◌, length};
 ghost use Rattle.words.specs.BigEndian.{be};
 ghost use Rattle.words.specs.Widths.{width_most};

@@ -1,5 +1,7 @@
 // The writer of an assembled submission (document 02, W3): parts in order, each into the part of the output
 // that begins where the last one ended.
+#![tactic(auto)]
+
 ghost use Rattle.std.specs.Prelude.{◌≡◌, ◌+◌, ◌-◌, ◌*◌, ◌≤◌, ◌<◌, length, get_or, drop};
 ghost use Rattle.words.specs.Over.{over};
 ghost use Rattle.assembly_copies.specs.Rows.{taken_size};
@@ -15,7 +17,7 @@ pub mod sizes;
 mod trailer;
 
 // What is to be written: the widths, and the numbers of replicas, records and leaders.
-#[derive(Drop)]
+#[derive(Clone, Copy)]
 pub struct Plan {
     pub width: usize,
     pub size: usize,
@@ -25,7 +27,7 @@ pub struct Plan {
 }
 
 // The bytes of parts 2 to 4: leader certificates, stamps, commit.
-#[derive(Drop)]
+#[derive(Clone, Copy)]
 struct PartSizes {
     leaders: usize,
     stamps: usize,

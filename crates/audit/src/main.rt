@@ -1,5 +1,7 @@
 // The program `audit` (document 01, "The report"): reads the files `roster`, `first` and `second` of the
 // current folder, and prints the lines of the report.
+#![tactic(auto)]
+
 ghost use Rattle.std.specs.Prelude.{◌≡◌, take, replicate};
 ghost use Rattle.io.specs.Counts.{IsPrefixLen};
 ghost use Rattle.report.specs.Report.{report_size, report_after};

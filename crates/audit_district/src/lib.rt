@@ -1,5 +1,7 @@
 // The audit of a district (document 02, W1): the checks in their order, each submission judged once, and the
 // report.
+#![tactic(auto)]
+
 ghost use Rattle.std.specs.Prelude.{◌≡◌, true, ◌+◌, ◌≤◌, length};
 ghost use Rattle.std.proofs.lemmas.List.Edits.{sets};
 ghost use Rattle.words.specs.Over.{over};

@@ -1,5 +1,7 @@
 // The audit (document 01, "What stops an audit" and "The report"): the refusal that comes first, or what two
 // accepted submissions show.
+#![tactic(auto)]
+
 ghost use Rattle.std.specs.Prelude.{◌≡◌, ◌++◌, ◌≤◌, length, drop};
 ghost use Rattle.forensics.specs.Findings.{found_in};
 ghost use Rattle.report.specs.Report.{report_size, report_bytes, audit_number, report_after};
@@ -10,14 +12,14 @@ use log_terms::LogPointers;
 
 // Whether roster and submissions are accepted; if not, the number and where: 0 for the roster, 1 or 2 for the
 // submission.
-#[derive(Drop)]
+#[derive(Clone, Copy)]
 pub enum Outcome {
     Accepted,
     Refused(u32, u32),
 }
 
 // What validating gives: the outcome, and the pointers of both submissions where they are accepted.
-#[derive(Drop)]
+#[derive(Clone, Copy)]
 pub struct Validation {
     pub outcome: Outcome,
     pub first: LogPointers,

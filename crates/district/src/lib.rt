@@ -1,4 +1,6 @@
 // A district's run (document 02, W1): its definitions and claims, and the values that the code shares.
+#![tactic(auto)]
+
 
 // The bytes of the report after the submissions' numbers: the union, and the pair.
 pub const TAIL_SIZE: usize = 4;
@@ -9,7 +11,7 @@ pub const LOWER_AT: usize = 2;
 pub const HIGHER_AT: usize = 3;
 
 // A fork: its index, and the positions of its pair, from 1. All are 0 where there is none.
-#[derive(Drop)]
+#[derive(Clone, Copy)]
 pub struct Fork {
     pub index: u32,
     pub lower: u32,
@@ -17,7 +19,7 @@ pub struct Fork {
 }
 
 // What pairs show: the union of the replicas named, and the first pair that forks.
-#[derive(Drop)]
+#[derive(Clone, Copy)]
 pub struct Shown {
     pub named: u16,
     pub fork: Fork,

@@ -1,5 +1,7 @@
 // The pairs of a district's accepted submissions, audited (document 02, W1). Both loops run from the last
 // position down: of the pairs that fork the first one is seen last, and stays.
+#![tactic(auto)]
+
 ghost use Rattle.std.specs.Prelude.{◌≡◌, [], ◌++◌, suc, ◌<◌, drop};
 ghost use Rattle.roster.specs.Roster.{roster_number};
 ghost use Rattle.district_parts.specs.Parts.{count_most};
@@ -15,7 +17,7 @@ use submission_checks::Validated;
 
 // A submission of the buffer: its position among all, from 1, where it stands, and the pointers of its
 // committed records and of its log.
-#[derive(Drop)]
+#[derive(Clone, Copy)]
 pub struct Part {
     pub position: u32,
     pub start: usize,
@@ -24,7 +26,7 @@ pub struct Part {
 }
 
 // The submissions that are accepted, in their order.
-#[derive(Drop)]
+#[derive(Clone, Copy)]
 pub struct Entries {
     pub count: usize,
     pub parts: [Part; COUNT_MOST],

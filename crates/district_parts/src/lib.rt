@@ -1,4 +1,6 @@
 // The lengths of a district's submissions, against the buffer that has them (document 02, W1: 17 and 18).
+#![tactic(auto)]
+
 ghost use Rattle.std.specs.Prelude.{◌≡◌};
 ghost use Rattle.district_parts.specs.Parts as paper;
 

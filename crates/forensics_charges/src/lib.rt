@@ -1,5 +1,7 @@
 // What the rules charge a replica with, from two terms, from a receipt and a term, or from the uses of its
 // leaves, as a row of the report (document 01, "The report"; document 02, W4 to W6).
+#![tactic(auto)]
+
 ghost use Rattle.std.specs.Prelude.{◌≡◌, [], ◌<◌};
 ghost use Rattle.replica.specs.Charges.{charge};
 ghost use Rattle.forensics.specs.Findings.{lowest};
@@ -12,7 +14,7 @@ pub mod rules;
 
 // A term of a submission as its rules compare it: the vote and the signers of its leader certificate, and the
 // index of its last record in this log, where the stamp is.
-#[derive(Drop)]
+#[derive(Clone, Copy)]
 pub struct Tenure {
     pub candidate: u16,
     pub term: u64,
@@ -25,7 +27,7 @@ pub struct Tenure {
 
 // The receipts of a submission: the term and the index of the record, and the replicas that gave them.
 // Without a commit certificate all are 0: nobody has given one.
-#[derive(Drop)]
+#[derive(Clone, Copy)]
 pub struct Receipt {
     pub term: u64,
     pub index: u32,
@@ -34,14 +36,14 @@ pub struct Receipt {
 
 // A row of the report: the rule and the term, both 0 for a replica that is not named. For rule 5 the term is
 // a leaf's number.
-#[derive(Drop)]
+#[derive(Clone, Copy)]
 pub struct Row {
     pub rule: u8,
     pub term: u64,
 }
 
 // The fork index, and the rows of replicas 1 to 9.
-#[derive(Drop)]
+#[derive(Clone, Copy)]
 pub struct Findings {
     pub fork: u32,
     pub rows: [Row; forensics::ROW_COUNT],

@@ -1,5 +1,7 @@
 // The fork index and the rows of two accepted submissions (document 01, "The report"). The term's width is
 // fixed here, by the version, and free below.
+#![tactic(auto)]
+
 ghost use Rattle.std.specs.Prelude.{◌≡◌, true, length};
 ghost use Rattle.roster.specs.Roster.{roster_number};
 ghost use Rattle.log_terms.specs.Pointed.{PointersOf};
@@ -21,7 +23,7 @@ pub mod tenures;
 
 // What is known of an accepted submission: its shape, and the pointers of its committed records and of its
 // log.
-#[derive(Drop)]
+#[derive(Clone, Copy)]
 pub struct Side {
     pub shape: Shape,
     pub pointers: LogPointers,

@@ -1,4 +1,6 @@
 // The exported services, for C callers (include/hirelog.h has the rules).
+#![tactic(auto)]
+
 ghost use Rattle.std.specs.Prelude.{◌≡◌};
 ghost use Rattle.sha256.specs.Service.{digest_number, digest_after};
 ghost use Rattle.lm_answer.specs.Number.{answer_number, answer_leaf, answer_steps};

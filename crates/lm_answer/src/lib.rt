@@ -1,11 +1,13 @@
 // What the signature check says: its number (document 01, "Digest and signature"), its leaf (document 02, W5)
 // and its chain steps (W7).
+#![tactic(auto)]
+
 ghost use Rattle.std.specs.Prelude.{◌≡◌};
 ghost use Rattle.lm_answer.specs.Number as paper;
 
 // What the check says of a signature: good, with the number of its leaf and the chain steps that the check
 // took; bad, with the chain steps; or neither, for a long message.
-#[derive(Drop)]
+#[derive(Clone, Copy)]
 pub enum Answer {
     Good(u32, u32),
     Bad(u32),
@@ -14,7 +16,7 @@ pub enum Answer {
 
 // An answer as C has it: its number, the leaf of a good signature, or else 0, and the chain steps.
 #[repr(C)]
-#[derive(Drop)]
+#[derive(Clone, Copy)]
 pub struct LmsAnswer {
     pub number: u32,
     pub leaf: u32,

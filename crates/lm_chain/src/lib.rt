@@ -1,5 +1,7 @@
 // The steps of the chains of a one-time signature, in words (RFC 8554, 4.6, algorithm 4b, step 3): one at a
 // time, and four chains side by side.
+#![tactic(auto)]
+
 ghost use Rattle.std.specs.Prelude.{◌≡◌, ℕ, ◌+◌, ◌^◌, ◌<◌, take};
 ghost use Rattle.sha256.specs.Sha256.{rounds, initial, bytes_of};
 ghost use Rattle.lm_hash.specs.Identifier.{identifier};

@@ -5,6 +5,8 @@
 // lane by lane into the words that change: words 0 to 4, 14 and 15 are the same in every step of a leaf's
 // chains, and stay. `joined` and the three puts have their shape for the compiler's sake (docs/SPEED.md):
 // see each.
+#![tactic(auto)]
+
 ghost use Rattle.std.specs.Prelude.{◌≡◌, ℕ, ◌<◌, length, get_or};
 ghost use Rattle.sha256_lanes.specs.Lane.{Lane, lane, state, word_in, changed};
 ghost use Rattle.sha256_lanes.specs.Lane.{block_words, room_words};

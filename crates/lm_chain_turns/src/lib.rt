@@ -1,5 +1,7 @@
 // Chains of a one-time signature moved on: four side by side while there are four, and one by one (RFC 8554,
 // 4.6, algorithm 4b, step 3).
+#![tactic(auto)]
+
 ghost use Rattle.std.specs.Prelude.{◌≡◌, ℕ, ◌+◌, ◌≤◌, ◌<◌, length, get_or};
 ghost use Rattle.sha256.specs.Sha256.{bytes_of};
 ghost use Rattle.sha256_lanes.specs.Lane.{Lane, pick, lane, state, changed};

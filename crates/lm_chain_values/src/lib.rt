@@ -1,4 +1,6 @@
 // The values of all chains of a one-time signature, eight words each (RFC 8554, 4.6, algorithm 4b, step 3).
+#![tactic(auto)]
+
 ghost use Rattle.std.specs.Prelude.{◌≡◌, ℕ, ◌+◌, ◌*◌, ◌≤◌, ◌<◌, length, take, drop};
 ghost use Rattle.sha256.specs.Sha256.{bytes_of};
 ghost use Rattle.sha256_lanes.specs.Lane.{Lane, pick, state, changed};

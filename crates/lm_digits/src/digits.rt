@@ -65,7 +65,7 @@ fn join_checksum(q: [u8; HASH_SIZE], checksum: u32) -> [u8; CHECKED_SIZE]
 }
 
 // Q || Cksm(Q), and the steps of all chains for it (document 02, W7).
-#[derive(Drop)]
+#[derive(Clone, Copy)]
 pub struct Checked {
     pub bytes: [u8; CHECKED_SIZE],
     pub steps: u32,

@@ -1,5 +1,7 @@
 // The types of one-time signatures, and the digits that they cut a hash value into (RFC 8554, 3.1.3, 4.1
 // and 4.4).
+#![tactic(auto)]
+
 ghost use Rattle.std.specs.Prelude.{◌≡◌};
 ghost use Rattle.lm_digits.specs.Parameters.{one_time};
 
@@ -12,14 +14,14 @@ pub const CHAINS_MOST: usize = 265;
 pub const BYTE_CHAINS: usize = 34;
 
 // The parameters of a one-time type: digit bits w, chains p, checksum shift ls (RFC 8554, table 1).
-#[derive(Drop)]
+#[derive(Clone, Copy)]
 pub struct Parameters {
     pub bits: u32,
     pub chains: usize,
     pub shift: u32,
 }
 
-#[derive(Drop)]
+#[derive(Clone, Copy)]
 pub enum OneTime {
     Known(Parameters),
     Unknown,

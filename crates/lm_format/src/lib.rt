@@ -1,5 +1,7 @@
 // Keys and signatures as bytes (RFC 8554, 5.3 and 5.4): the height of a tree type, what a signature must be
 // before a hash is computed (5.4.2, algorithm 6a, step 2), and, as definitions, its leaf (document 02, W5).
+#![tactic(auto)]
+
 ghost use Rattle.std.specs.Prelude.{◌≡◌, ◌≤◌, length};
 ghost use Rattle.lm_digits.specs.Listed.{Listed};
 ghost use Rattle.lm_format.specs.Format as rfc;
@@ -23,7 +25,7 @@ pub const ONE_TIME_AT: usize = 8;
 pub const TYPE_SIZE: usize = 4;
 
 // The height of a tree type.
-#[derive(Drop)]
+#[derive(Clone, Copy)]
 pub enum Height {
     Levels(u32),
     Unknown,

@@ -1,4 +1,6 @@
 // The hashes of RFC 8554 (4.3, 4.5, 4.6 and 5.3), each of the form H(I || u32str(q) || u16str(d) || rest).
+#![tactic(auto)]
+
 ghost use Rattle.std.specs.Prelude.{◌≡◌, ◌++◌, ◌+◌, ◌≤◌, ◌<◌, length, take, drop};
 ghost use Rattle.std.proofs.lemmas.List.Edits.{sets};
 ghost use Rattle.words.specs.BigEndian.{be};
@@ -17,7 +19,7 @@ const HEAD_SIZE: usize = 16 + 4 + 2;
 const SALTED_SIZE: usize = HEAD_SIZE + 32;
 
 // One leaf of a key: the key's identifier I as four words, and the leaf's number q.
-#[derive(Drop)]
+#[derive(Clone, Copy)]
 pub struct Leaf {
     pub i0: u32,
     pub i1: u32,

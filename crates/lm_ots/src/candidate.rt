@@ -38,7 +38,7 @@ fn put_ends(leaf: Leaf, o: Parameters, s: &[u8], y: &[u8], out: &mut [u8])
 }
 
 // Kc, and the steps of all chains that lead to it (document 02, W7).
-#[derive(Drop)]
+#[derive(Clone, Copy)]
 pub struct KeyCandidate {
     pub key: State,
     pub steps: u32,

@@ -1,4 +1,6 @@
 // The tree of a key: from a leaf and its path to the root (RFC 8554, 5.4.2, algorithm 6a, step 4).
+#![tactic(auto)]
+
 ghost use Rattle.std.specs.Prelude.{◌≡◌, cond, ◌++◌, ◌*◌, ◌%◌, ◌^◌, ◌≤◌, ◌<◌, eqb, length};
 ghost use Rattle.sha256.specs.Sha256.{bytes_of};
 ghost use Rattle.lm_hash.specs.Identifier.{identifier};

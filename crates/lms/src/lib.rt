@@ -1,4 +1,6 @@
 // The LMS signature check (RFC 8554, section 5; document 01, "Digest and signature").
+#![tactic(auto)]
+
 ghost use Rattle.std.specs.Prelude.{◌≡◌, ◌+◌, ◌*◌, ◌^◌, ◌≤◌, ◌<◌, length, drop};
 ghost use Rattle.words.specs.BigEndian.{number_at, same};
 ghost use Rattle.sha256.specs.Service.{limit};
@@ -15,7 +17,7 @@ use lm_format::{Height, IDENTIFIER_AT, ONE_TIME_AT, ROOT_AT, TYPE_SIZE};
 use sha256::State;
 
 // Tc (RFC 8554, 5.4.2, algorithm 6a), and the chain steps that lead to it (document 02, W7).
-#[derive(Drop)]
+#[derive(Clone, Copy)]
 struct RootCandidate {
     root: State,
     steps: u32,

@@ -1,5 +1,7 @@
 // Records, chain strings, pointers and statements (document 01, "Chain and statements"), over the term's
 // width.
+#![tactic(auto)]
+
 ghost use Rattle.std.specs.Prelude.{◌≡◌, ◌∷◌, ◌++◌, ◌+◌, ◌≤◌, length, take};
 ghost use Rattle.words.specs.BigEndian.{be};
 ghost use Rattle.words.specs.Over.{over};

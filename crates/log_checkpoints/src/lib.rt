@@ -1,5 +1,7 @@
 // The pointer of any record of a log, from those of every 64th (document 01, "Chain and statements"), over
 // the term's width: at most 63 hashes each, and a table of 32 bytes for 64 records.
+#![tactic(auto)]
+
 ghost use Rattle.std.specs.Prelude.{◌≡◌, [], ◌*◌, ◌^◌, ◌≤◌, ◌<◌, length};
 ghost use Rattle.words.specs.Widths.{width_most};
 ghost use Rattle.sha256.specs.Sha256.{bytes_of};

@@ -1,4 +1,6 @@
 // The first index at which two logs differ (document 01, "The report"), over the term's width.
+#![tactic(auto)]
+
 ghost use Rattle.std.specs.Prelude.{◌≡◌, ◌+◌, ◌*◌, ◌≤◌, length, take, drop};
 ghost use Rattle.words.specs.BigEndian.{same};
 ghost use Rattle.words.specs.Widths.{width_most};

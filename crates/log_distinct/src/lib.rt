@@ -1,4 +1,6 @@
 // The distinct terms of a log, counted as a set (document 02, W3, check 8), over the term's width.
+#![tactic(auto)]
+
 ghost use Rattle.std.specs.Prelude.{◌≡◌, ◌*◌, ◌≤◌, leb, length};
 ghost use Rattle.words.specs.Widths.{width_most};
 ghost use Rattle.log_chain.specs.Records.{record_size, records_of};

@@ -1,5 +1,7 @@
 // The terms of a log: where each ends, their order and their number (document 01, "What stops an audit", 11
 // and 12), over the term's width.
+#![tactic(auto)]
+
 ghost use Rattle.std.specs.Prelude.{◌≡◌, ◌∷◌, ◌+◌, ◌*◌, ◌≤◌, ◌<◌, length};
 ghost use Rattle.words.specs.BigEndian.{number_at};
 ghost use Rattle.words.specs.Widths.{width_most};
@@ -15,14 +17,14 @@ pub mod pointers;
 
 // What a walk over the log carries along: the pointer of the last record so far, and that of the last one up
 // to a commit index. Each is pointer 0 where there is no such record.
-#[derive(Drop)]
+#[derive(Clone, Copy)]
 pub struct LogPointers {
     pub committed: State,
     pub last: State,
 }
 
 // Where a walk over the terms has come to: a term's last index, and the pointers there.
-#[derive(Drop)]
+#[derive(Clone, Copy)]
 pub struct Walked {
     pub end: usize,
     pub pointers: LogPointers,

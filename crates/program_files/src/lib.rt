@@ -1,4 +1,6 @@
 // A file, read whole into a buffer (document 01, "The report": the files of the program `audit`).
+#![tactic(auto)]
+
 ghost use Rattle.io.specs.Counts.{IsPrefixLen};
 
 // Whether nothing is left to read, and the last read did not fail.

@@ -1,6 +1,8 @@
 // The report (document 01, "The report"): its bytes for every case, and what they promise of naming and
 // fairness (demand 3): definitions and proofs; and its size and places, for the code that writes and reads
 // it.
+#![tactic(auto)]
+
 
 // The bytes of a report.
 pub const REPORT_SIZE: usize = 53;

@@ -1,5 +1,7 @@
 // The report's bytes, written (document 01, "The report"): number, where, fork index, named replicas, and
 // nine rows.
+#![tactic(auto)]
+
 ghost use Rattle.std.specs.Prelude.{◌≡◌, ◌++◌, ◌≤◌, length, drop};
 ghost use Rattle.std.proofs.lemmas.List.Edits.{sets};
 ghost use Rattle.words.specs.BigEndian.{be};

@@ -1,4 +1,6 @@
 // The rows of the report, written (document 01, "The report").
+#![tactic(auto)]
+
 ghost use Rattle.std.specs.Prelude.{◌≡◌, ◌+◌, ◌≤◌, ◌<◌, length};
 ghost use mathlib.Core.List.{◌++◌, map, flat_map};
 ghost use Rattle.std.proofs.lemmas.List.Edits.{sets};

@@ -1,4 +1,6 @@
 // The roster and its masks (document 01, "The roster").
+#![tactic(auto)]
+
 ghost use Rattle.std.specs.Prelude.{◌≡◌, ◌+◌, ◌*◌, ◌≤◌, ◌<◌, length};
 ghost use Rattle.lm_format.specs.Bounds.{height_most};
 ghost use Rattle.lm_format.specs.Format.{height, key_size};

@@ -1,4 +1,6 @@
 // The checks of a roster (document 01, "What stops an audit", numbers 2 to 4).
+#![tactic(auto)]
+
 ghost use Rattle.std.specs.Prelude.{◌≡◌, ◌+◌, ◌*◌, ◌≤◌, ◌<◌, length};
 ghost use Rattle.lm_format.specs.Format.{key_size};
 ghost use Rattle.roster.specs.Roster as paper;

@@ -1,4 +1,6 @@
 // SHA-256 (FIPS 180-4, 5.1.1 to 6.2.2): the state by value, and its methods.
+#![tactic(auto)]
+
 ghost use Rattle.std.specs.Prelude.{◌≡◌, ◌+◌, ◌-◌, ◌%◌, ◌^◌, ◌≤◌, ◌<◌, length, take, drop, replicate};
 ghost use mathlib.Core.List.{◌∷◌, ◌++◌, flat_map};
 ghost use Rattle.words.specs.BigEndian.{be};
@@ -9,7 +11,7 @@ use sha256_schedule::functions::{add, add_four, big_sigma0, big_sigma1, choose, 
 use sha256_tables::{INITIAL, K};
 
 // The hash value, and the working variables of a block (FIPS 180-4, 6.2).
-#[derive(Drop)]
+#[derive(Clone, Copy)]
 pub struct State {
     pub a: u32,
     pub b: u32,

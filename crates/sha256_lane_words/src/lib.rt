@@ -1,5 +1,7 @@
 // Words of four lanes side by side, and the functions of FIPS 180-4, 4.1.2, on them, in a shape from which
 // the compiler forms vector instructions.
+#![tactic(auto)]
+
 ghost use Rattle.std.specs.Prelude.{◌≡◌, ℕ, ◌+◌, ◌*◌, ◌≤◌, length};
 ghost use Rattle.sha256.specs.Sha256.{◌⊞◌, σ₀, σ₁};
 ghost use Rattle.sha256_lane_words.specs.Lane.{Lane, lane, word_in, changed};
@@ -9,7 +11,7 @@ pub mod functions;
 use functions::word;
 
 // A word in each lane.
-#[derive(Drop)]
+#[derive(Clone, Copy)]
 pub struct Lanes(pub u32, pub u32, pub u32, pub u32);
 
 // One word, the same in each lane.

@@ -1,5 +1,7 @@
 // SHA-256 of four blocks side by side (FIPS 180-4, 6.2.2), in a shape from which the compiler forms vector
 // instructions.
+#![tactic(auto)]
+
 ghost use Rattle.std.specs.Prelude.{◌≡◌, ℕ, ◌+◌, ◌-◌, ◌*◌, ◌≤◌, ◌<◌, List, length, get_or, take};
 ghost use Rattle.sha256_tables.specs.Constants.{constants};
 ghost use Rattle.sha256.specs.Sha256 as fips;
@@ -18,7 +20,7 @@ pub const BLOCK_WORDS: usize = 16;
 pub const ROOM_WORDS: usize = 4 * 64;
 
 // A hash value in each lane.
-#[derive(Drop)]
+#[derive(Clone, Copy)]
 pub struct Four(pub State, pub State, pub State, pub State);
 
 // Two rounds in each lane, with their constants and words of the schedule (FIPS 180-4, 6.2.2, step 3).

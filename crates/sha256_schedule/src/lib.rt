@@ -1,4 +1,6 @@
 // The message schedule (FIPS 180-4, 6.2.2, step 1), and the functions of words that it and the rounds use.
+#![tactic(auto)]
+
 ghost use Rattle.std.specs.Prelude.{◌≡◌, ℕ, ◌+◌, ◌-◌, ◌<◌, ◌≤◌, List, length, take};
 ghost use Rattle.sha256_schedule.specs.Words as fips;
 ghost use Rattle.sha256_schedule.specs.Words.{◌⊞◌, σ₀, σ₁};

@@ -1,4 +1,6 @@
 // The digest service (document 01, "Digest and signature").
+#![tactic(auto)]
+
 ghost use Rattle.std.specs.Prelude.{◌≡◌};
 ghost use Rattle.sha256.specs.Service.{digest_number, digest_after};
 

@@ -1,6 +1,8 @@
 // A submission, read from its trailer, and its checks (document 01, "A submission, read from its trailer" and
 // "What stops an audit", numbers 5 to 15), and the use of a leaf that a signature is (document 02, W5):
 // definitions and laws, and the places of the fields of its certificates, over the term's width.
+#![tactic(auto)]
+
 ghost use Rattle.std.specs.Prelude.{◌≡◌, ◌≤◌};
 ghost use Rattle.words.specs.Widths.{width_most};
 ghost use Rattle.submission.specs.Reading.{ballot_size};

@@ -1,6 +1,8 @@
 // The number of the first check that a submission does not meet (document 01, "What stops an audit": the
 // lowest number that applies), each check asked after those before it; and the pointers that check 13's walk
 // over the log hands on (document 02, W2). The term's width is fixed here, by the version, and free below.
+#![tactic(auto)]
+
 ghost use Rattle.std.specs.Prelude.{◌≡◌, [], length};
 ghost use Rattle.refusal.specs.Checks.{refusal, first};
 ghost use Rattle.roster.specs.Roster.{roster_number};
@@ -19,7 +21,7 @@ use submission_parts::{CommitPart, Shape};
 
 // What validating a submission gives: its number, and the pointers of its committed records and of its log,
 // both pointer 0 where it is refused.
-#[derive(Drop)]
+#[derive(Clone, Copy)]
 pub struct Validated {
     pub number: u32,
     pub pointers: LogPointers,

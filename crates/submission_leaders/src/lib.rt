@@ -1,6 +1,8 @@
 // The leader certificates against the terms of the log (document 01, "What stops an audit", 13), over the
 // term's width. This is the one walk over the log that hashes its records (document 02, W2). A pointer has no
 // cluster name in it: that of the form is empty, or any, here.
+#![tactic(auto)]
+
 ghost use Rattle.std.specs.Prelude.{◌≡◌, true, List, [], ℕ, ◌+◌, ◌*◌, ◌≤◌, length};
 ghost use Rattle.sha256.specs.Sha256.{bytes_of};
 ghost use Rattle.words.specs.Widths.{width_most};
@@ -23,7 +25,7 @@ use submission_parts::Shape;
 
 // Whether the certificates are those of the log's terms; and, where they are, the pointers of the committed
 // records and of the log.
-#[derive(Drop)]
+#[derive(Clone, Copy)]
 pub struct LogMatch {
     pub holds: bool,
     pub pointers: LogPointers,

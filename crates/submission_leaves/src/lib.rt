@@ -1,5 +1,7 @@
 // Uses of leaves in a lent buffer, one entry after the other: the leaf's number, the length of its message,
 // and the message with zeros after it (document 02, W5).
+#![tactic(auto)]
+
 ghost use Rattle.std.specs.Prelude.{◌≡◌, [], ◌∷◌, ◌++◌, ◌+◌, ◌*◌, ◌≤◌, ◌<◌, length, take, drop};
 ghost use Rattle.lm_format.specs.Uses.{use_of, reused};
 ghost use Rattle.submission.specs.Sizes.{statement_most};

@@ -2,6 +2,8 @@
 // the readers of certificates, which give the fields with the next place, or a refusal where the certificate
 // does not lie before an end; the commit certificate, or none; and, in `layout`, where the parts stand. Over
 // the term's width.
+#![tactic(auto)]
+
 ghost use Rattle.std.specs.Prelude.{◌≡◌, true, ◌+◌, ◌*◌, ◌≤◌, length};
 ghost use Rattle.std.specs.Int.Count.{ones};
 ghost use Rattle.words.specs.Widths.{width_most};
@@ -17,7 +19,7 @@ use submission::{COMMIT_FIELDS_SIZE, COMMIT_SIGNERS_AT, SIGNERS_SIZE, TERM_AT};
 pub mod layout;
 
 // The numbers of a leader certificate.
-#[derive(Drop)]
+#[derive(Clone, Copy)]
 pub struct Certificate {
     pub candidate: u16,
     pub term: u64,
@@ -27,42 +29,42 @@ pub struct Certificate {
 }
 
 // A leader certificate that was read, with the next place.
-#[derive(Drop)]
+#[derive(Clone, Copy)]
 pub enum Reading {
     Read(Certificate, usize),
     Refused,
 }
 
 // The place after so many leader certificates.
-#[derive(Drop)]
+#[derive(Clone, Copy)]
 pub enum Place {
     At(usize),
     Refused,
 }
 
 // The numbers of a commit certificate.
-#[derive(Drop)]
+#[derive(Clone, Copy)]
 pub struct Commit {
     pub index: u32,
     pub signers: u16,
 }
 
 // A commit certificate that was read, with the next place.
-#[derive(Drop)]
+#[derive(Clone, Copy)]
 pub enum CommitReading {
     Read(Commit, usize),
     Refused,
 }
 
 // Part 4: a commit certificate and its place, or none.
-#[derive(Drop)]
+#[derive(Clone, Copy)]
 pub enum CommitPart {
     Found(Commit, usize),
     Absent,
 }
 
 // What check 9 leaves known of a submission: its widths, its counts, and where parts 2 and 3 stand.
-#[derive(Drop)]
+#[derive(Clone, Copy)]
 pub struct Shape {
     pub width: usize,
     pub size: usize,

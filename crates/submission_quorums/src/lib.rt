@@ -1,4 +1,6 @@
 // The signers of certificates (document 01, "What stops an audit", 10), over the term's width.
+#![tactic(auto)]
+
 ghost use Rattle.std.specs.Prelude.{◌≡◌, true, ◌≤◌, ◌<◌, length};
 ghost use Rattle.words.specs.Widths.{width_most};
 ghost use Rattle.refusal.specs.Checks.{every};

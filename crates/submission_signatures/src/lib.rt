@@ -1,4 +1,6 @@
 // Every signature of a submission (document 01, "What stops an audit", 15), over the term's width.
+#![tactic(auto)]
+
 ghost use Rattle.std.specs.Prelude.{◌≡◌, false, cond, map};
 ghost use Rattle.refusal.specs.Checks.{every};
 ghost use Rattle.submission.specs.View.{leads, stamp_of, receipts_of, slots};

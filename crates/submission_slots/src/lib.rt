@@ -1,4 +1,6 @@
 // The signatures of one certificate under the roster's keys (document 01, "What stops an audit", number 15).
+#![tactic(auto)]
+
 ghost use Rattle.std.specs.Prelude.{◌≡◌, ◌+◌, ◌*◌, ◌^◌, ◌≤◌, ◌<◌, length, drop};
 ghost use Rattle.std.specs.Int.Count.{ones};
 ghost use Rattle.sha256.specs.Service.{limit};

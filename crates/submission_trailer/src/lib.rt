@@ -1,5 +1,7 @@
 // The trailer: the last 44 bytes (document 01, "A submission, read from its trailer", part 5), and the checks
 // on it ("What stops an audit", 5 to 8).
+#![tactic(auto)]
+
 ghost use Rattle.std.specs.Prelude.{◌≡◌, ◌≤◌, ◌<◌, length};
 ghost use Rattle.roster.specs.Roster.{name_size, cluster};
 ghost use Rattle.submission.specs.Trailer as fields;

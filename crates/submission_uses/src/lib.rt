@@ -1,5 +1,7 @@
 // A replica's signatures in a submission, in the order of its layout: the leaf of each and its message, put
 // one after the other into a lent buffer (document 02, W5), over the term's width.
+#![tactic(auto)]
+
 ghost use Rattle.std.specs.Prelude.{◌≡◌, ◌++◌, map, ◌+◌, ◌*◌, ◌≤◌, ◌<◌, length};
 ghost use Rattle.submission.specs.View.{slots};
 ghost use Rattle.roster.specs.Sizes.{signature_most};
@@ -19,7 +21,7 @@ pub mod stamps;
 pub mod votes;
 
 // Where a stamp stands and that of the leader certificate it goes with, and the record that it is on.
-#[derive(Drop)]
+#[derive(Clone, Copy)]
 pub struct StampPart {
     pub certificate: usize,
     pub signature: usize,

@@ -3,6 +3,8 @@
 // the chain steps (document 02, W7). A line of a file is a name, 1 or 0, the key, the message and the
 // signature. The second is not read here: the file `stdout` has them, each 1 with the number in the first
 // four bytes of the signature, and the steps that the separately written auditor counts.
+#![tactic(auto)]
+
 ghost use Rattle.io.specs.Counts.{IsPrefixLen};
 
 use libc::STDOUT_FILENO;

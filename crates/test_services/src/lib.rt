@@ -1,5 +1,7 @@
 // What each service promises, promised again by a function that does nothing but call it: a clause that a
 // service no longer has, or that says less, is refused here. Nothing calls these functions.
+#![tactic(auto)]
+
 ghost use Rattle.std.specs.Prelude.{◌≡◌};
 ghost use Rattle.sha256.specs.Service.{digest_number, digest_after};
 ghost use Rattle.lm_answer.specs.Number.{answer_number, answer_leaf, answer_steps};

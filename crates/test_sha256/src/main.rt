@@ -1,6 +1,8 @@
 // Prints the SHA-256 of each message of two files of published vectors (FIPS 180-4; document 01, "Conditions
 // of acceptance"), in the files' order, one to a line. A line of a file is the message and its digest. The
 // digest is not read here: the file `stdout` has them.
+#![tactic(auto)]
+
 use libc::STDOUT_FILENO;
 
 // Prints a digest as a line.

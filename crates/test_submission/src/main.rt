@@ -1,6 +1,8 @@
 // Prints for sample submissions, one for each number from 5 to 15 and four for 0, the number and the pointers
 // that validation gives them against a sample roster. The files are made by tests/auditor (make_cases, folder
 // numbers); the file `stdout` has what its auditor gives.
+#![tactic(auto)]
+
 use libc::STDOUT_FILENO;
 use sha256::State;
 use submission_checks::Validated;

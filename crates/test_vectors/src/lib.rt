@@ -1,5 +1,7 @@
 // Files of published test vectors (document 01, "Conditions of acceptance"), read and printed: a text of
 // lines, each of fields in hex that a space separates; `-` stands for no bytes.
+#![tactic(auto)]
+
 ghost use Rattle.std.specs.Prelude.{◌+◌, ◌≤◌, ◌<◌, length};
 ghost use Rattle.io.specs.Counts.{IsPrefixLen};
 

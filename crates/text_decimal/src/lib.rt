@@ -1,4 +1,6 @@
 // Numbers in decimal, put into a buffer (document 01, "The report": the lines of the program `audit`).
+#![tactic(auto)]
+
 ghost use Rattle.std.specs.Prelude.{◌≡◌, ◌+◌, ◌≤◌, length};
 ghost use Rattle.std.proofs.lemmas.List.Edits.{sets};
 ghost use Rattle.text_decimal.specs.Decimal.{decimal};

@@ -1,4 +1,6 @@
 // The lines that the program prints of a report (document 01, "The report").
+#![tactic(auto)]
+
 ghost use Rattle.std.specs.Prelude.{◌≡◌, ◌++◌, ◌+◌, ◌-◌, ◌≤◌, ◌<◌, length, replicate};
 ghost use Rattle.text_decimal.specs.Put.{Put};
 ghost use Rattle.text_line.specs.Room.{replica_room};

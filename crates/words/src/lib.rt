@@ -1,5 +1,7 @@
 // Big-endian unsigned numbers, of 1, 2 and 4 bytes and of a width of up to 8, read at a place of a slice and
 // written to one (document 01, "The parts ordered").
+#![tactic(auto)]
+
 ghost use Rattle.std.specs.Prelude.{◌≡◌, ◌+◌, ◌^◌, ◌≤◌, ◌<◌, length};
 ghost use Rattle.std.proofs.lemmas.List.Edits.{sets};
 ghost use Rattle.words.specs.BigEndian.{number_at, be};

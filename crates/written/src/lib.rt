@@ -1,10 +1,12 @@
 // What a call that writes into one output answers (document 02, W3: "the number and each length written (0
 // when refused) are returned").
+#![tactic(auto)]
+
 ghost use Rattle.std.specs.Prelude.{◌≡◌};
 
 // The number, and the bytes that were written.
 #[repr(C)]
-#[derive(Drop)]
+#[derive(Clone, Copy)]
 pub struct Written {
     pub number: u32,
     pub length: usize,

@@ -1,0 +1,6 @@
+-- The bytes of the value, written to the place.
+use borrow.Author.Rules.{rules}
+use Rattle.lm_hash.proofs.put_value.Goals as goal
+
+pub returns : goal.returns
+returns c = simp (c.put_bytes.ensures, c.bytes-bytes.ensures)

@@ -1,0 +1,10 @@
+-- The first two rotations of the definition, in nested form.
+use Rattle.std.proofs.Common.{ℕ, refl, ap}
+use lib.Bits.{bit_xor}
+use Rattle.sha256_schedule.specs.Words.{Σ₀, rotr, shr}
+use Rattle.sha256_schedule.proofs.Bitwise.{rotr_nested}
+use Rattle.sha256_schedule.proofs.functions.big_sigma0.Goals as goal
+
+pub returns : goal.returns
+unfolding Σ₀ rotr shr
+returns c = let x = c.args.x in ap (λ (v : ℕ). bit_xor v (rotr 22 x)) (rotr_nested 2 11 19 x refl c.ranges.x.fits)

@@ -1,0 +1,10 @@
+-- The first two rotations of the definition, in nested form.
+use Rattle.std.proofs.Common.{ℕ, refl, ap}
+use lib.Bits.{bit_xor}
+use Rattle.sha256_schedule.specs.Words.{Σ₁, rotr, shr}
+use Rattle.sha256_schedule.proofs.Bitwise.{rotr_nested}
+use Rattle.sha256_schedule.proofs.functions.big_sigma1.Goals as goal
+
+pub returns : goal.returns
+unfolding Σ₁ rotr shr
+returns c = let x = c.args.x in ap (λ (v : ℕ). bit_xor v (rotr 25 x)) (rotr_nested 6 5 21 x refl c.ranges.x.fits)
