@@ -1,5 +1,4 @@
 -- Bytes that were both turned over, and so are as they were.
--- Assumes nothing.
 use mathlib.Core.Path.{◌≡◌, sym, ap, ap₂, ◌∙◌}
 use Prim.Native.Nat.{ℕ, ◌+◌, ◌*◌, ◌/◌, ◌%◌, ◌^◌, ◌<◌}
 use native.Mathlib.Omega.{arith}
@@ -8,8 +7,7 @@ use lib.Dec.{lit<}
 use lib.Bits.{bit_xor, xor_block, xor_comm, xor_self, xor_zero_l, xor_zero_r, xor_lt}
 use Rattle.sha256_schedule.proofs.Bitwise.{xor_assoc}
 use Rattle.lm_chain_blocks.specs.Block.{across_word}
-use Rattle.lm_chain_blocks.proofs.joined.Statement.{statement}
-use Rattle.lm_chain_blocks.proofs.joined.Tie as tie
+use Rattle.lm_chain_blocks.proofs.joined.Goals as goal
 
 turned : (v : ℕ) → v < 256 → bit_xor 255 (bit_xor v 255) ≡ v
 turned v h =
@@ -25,12 +23,9 @@ both a v h =
     ∙ xor_block 8 a 0 255 (bit_xor v 255) (lit< tt) (xor_lt 8 v 255 h (lit< tt))
     ∙ ap₂ (λ (x y : ℕ). x * 256 + y) (xor_zero_r a) (turned v h)
 
-returns : tie.Need-returns
+pub returns : goal.returns
 unfolding across_word
 returns c =
     let a = c.args in
     let fits : a.y < 2 ^ 32 = search rules in
     both (a.x % 16777216) (a.y / 16777216) (omega arith) ∙ omega arith
-
-pub joined-spec : {M : Type 1} → statement M
-joined-spec = tie.close (tie.spec (λ c. search rules) (λ c. search rules) returns)
