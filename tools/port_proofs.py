@@ -238,7 +238,17 @@ class Function:
             head, _, name = old.lstrip(".").partition(" .")
             if head == "args" and re.fullmatch(r"t\d+", name):
                 text = re.sub(rf"\.{name}(?![\w-])", "." + new.rpartition(" .")[2], text)
-        return re.sub(rf"(?<![^\s(,{{\[])({heads})((?:\.before)*)((?:\.(?!before\b){NAME})+)()", to, text)
+        text = re.sub(rf"(?<![^\s(,{{\[])({heads})((?:\.before)*)((?:\.(?!before\b){NAME})+)()", to, text)
+        # `let x = c.call in .. x.new.0`
+        callees = {x[2][1]: x[3] for x in self.e["places"] if x[3]}
+        for name, step in re.findall(rf"let ({NAME}) = c\.({NAME}) in(?=\s)", text):
+            names = lent(callees.get(step))
+            text = re.sub(
+                rf"(?<![^\s(,{{\[]){re.escape(name)}\.new\.(\d+)(?![\w-])",
+                lambda m: f"{name}.new.{names[int(m.group(1))]}" if int(m.group(1)) < len(names) else m.group(),
+                text,
+            )
+        return text
 
 
 def invariant(fn, decl, params, body, loop, k):
