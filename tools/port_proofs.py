@@ -296,6 +296,18 @@ def split(item, name):
     return comments, sig, unfolding, clauses
 
 
+def named(fn, body, goal):
+    """A body that answers several named clauses, as a record of them."""
+    if goal.startswith("returns"):
+        return as_record(body, clauses(fn.crate, fn.name, "ensures"))
+    if "-requires" in goal:
+        step = goal.partition("-requires")[0]
+        callee = [x[3] for x in fn.e["places"] if x[3] and (x[2][1] == step or x[2][1].startswith(step))]
+        if callee:
+            return as_record(body, clauses(*callee[0].partition("::")[::2], "requires"))
+    return body
+
+
 def convert(crate, name, entry, keep, dropped):
     folder = f"crates/{crate}/proofs/{name}"
     items = groups(read(f"{folder}/Proof.antt"))
@@ -370,15 +382,7 @@ def convert(crate, name, entry, keep, dropped):
                 body = c[m.end() :]
                 if params and params[0] != "c":
                     fn.left.append(f"{new}: parameters {params}")
-                body = fn.body(body, at, where)
-                if new.startswith("returns"):
-                    body = as_record(body, clauses(crate, name, "ensures"))
-                elif "-requires" in new:
-                    step = new.partition("-requires")[0]
-                    callee = [x[3] for x in entry["places"] if x[3] and (x[2][1] == step or x[2][1].startswith(step))]
-                    if callee:
-                        body = as_record(body, clauses(*callee[0].partition("::")[::2], "requires"))
-                out.append((params, body))
+                out.append((params, named(fn, fn.body(body, at, where), new)))
             text = "\n".join(f"{new} {' '.join(pp)} ={b}" if pp else f"{new} c = ({b.strip()}) c" for pp, b in out)
             trivial = len(out) == 1 and TRIVIAL.match(out[0][1].strip()) and not p[2]
             item = "\n".join(p[0] + [f"pub {new} : goal.{new}"] + p[2] + [text])
@@ -388,7 +392,7 @@ def convert(crate, name, entry, keep, dropped):
                 item, trivial = f"pub {new} : goal.{new}\n{new} c = {a} c", False
                 fn.left.append(f"{new}: {a}")
             else:
-                body = fn.body(m.group(2), at, where)
+                body = named(fn, fn.body(m.group(2), at, where), new)
                 trivial = bool(TRIVIAL.match(body.strip()))
                 item = f"pub {new} : goal.{new}\n{new} c = {body}"
         if new in done:
