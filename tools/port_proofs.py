@@ -244,7 +244,8 @@ class Function:
             if head == "args" and re.fullmatch(r"t\d+", name):
                 text = re.sub(rf"\.{name}(?![\w-])", "." + new.rpartition(" .")[2], text)
         text = re.sub(rf"(?<![^\s(,{{\[])({heads})((?:\.before)*)((?:\.(?!before\b){NAME})+)()", to, text)
-        text = re.sub(r"\bnot[-_](?:true|false) _ (c\.if-not-[^\s(),;]*\.(?:true|false))", r"\1", text)
+        text = re.sub(r"\bnot[-_](?:true|false) _ (c\.if-not-[^\s(),;]*\.(?:true|false))", r"@\1", text)
+        text = re.sub(r"(?<![@\w])(c\.if-not-[^\s(),;]*\.(?:true|false))(?![^\s(),;}\]])", r"(ap not \1)", text).replace("@c.", "c.")
         # names of steps: what a call wrote, by its parameter
         for m in list(re.finditer(rf"let ({NAME}) = c\.([^\s.]+) in", text)):
             callee = [x[3] for x in self.e["places"] if x[2][1] == m.group(2) and x[3]]
@@ -423,7 +424,7 @@ def convert(crate, name, entry, keep, dropped):
         extra = [f"use {path}.Invariants.{{{', '.join(shared)}}}"] if shared else []
         write(
             f"{folder}/Answers.antt",
-            "\n".join(prose + uses + extra + [f"use {path}.Goals as goal"]) + "\n\n" + "\n\n".join(helpers + answers) + "\n",
+            "\n".join(prose + imports(uses, "\n".join(answers)) + extra + [f"use {path}.Goals as goal"]) + "\n\n" + "\n\n".join(helpers + answers) + "\n",
         )
     elif helpers:
         fn.left.append("helpers without answers: " + ", ".join(n for n, x in decls if n not in used))
@@ -432,6 +433,16 @@ def convert(crate, name, entry, keep, dropped):
     if not os.listdir(folder):
         os.rmdir(folder)
     return fn.left
+
+
+def imports(uses, text):
+    """Adds what the conversion itself needs."""
+    out = list(uses)
+    if "ap not" in text:
+        for module, word in (("mathlib.Core.Path", "ap"), ("mathlib.Core.Bool", "not")):
+            if not any(re.search(rf"[{{ ]{word}[,}}]", u) for u in out):
+                out.append(f"use {module}.{{{word}}}")
+    return out
 
 
 def restore(crate, goals):

@@ -5,6 +5,8 @@ use Prim.Native.Nat.{◌≤◌}
 use native.Mathlib.Omega.{arith}
 use Rattle.roster.specs.Roster.{every_replica, typed}
 use Rattle.roster.proofs.EveryReplica.{fails, next, done}
+use mathlib.Core.Path.{ap}
+use mathlib.Core.Bool.{not}
 use Rattle.roster_checks.proofs.all_typed.Goals as goal
 
 pub loop-left-init : goal.loop-left-init
@@ -17,13 +19,13 @@ pub returns-then-not-typed : goal.returns-then-not-typed
 returns-then-not-typed c =
     let l = c.loop-left in
     let a = c.args in
-    fails (typed a.roster.now) l.left l.invariant.1 (omega arith) c.type-inv.ensures c.if-not-typed.true
+    fails (typed a.roster.now) l.left l.invariant.1 (omega arith) c.typed.ensures (ap not c.if-not-typed.true)
 
 pub loop-left-preserved : goal.loop-left-preserved
 loop-left-preserved c =
     let l = c.loop-left in
     let a = c.args in
-    (omega arith, next (typed a.roster.now) l.left l.invariant.1 (omega arith) c.type-inv.ensures c.if-not-typed.false)
+    (omega arith, next (typed a.roster.now) l.left l.invariant.1 (omega arith) c.typed.ensures (ap not c.if-not-typed.false))
 
 pub returns : goal.returns
 returns c =

@@ -5,6 +5,8 @@ use Prim.Native.Nat.{◌≤◌}
 use native.Mathlib.Omega.{arith}
 use Rattle.roster.specs.Roster.{every_replica, single}
 use Rattle.roster.proofs.EveryReplica.{fails, next, done}
+use mathlib.Core.Path.{ap}
+use mathlib.Core.Bool.{not}
 use Rattle.roster_checks.proofs.keys.all_single.Goals as goal
 
 pub loop-last-init : goal.loop-last-init
@@ -17,13 +19,13 @@ pub returns-then-not-single : goal.returns-then-not-single
 returns-then-not-single c =
     let l = c.loop-last in
     let a = c.args in
-    fails (single a.roster.now) l.last l.invariant.1 (omega arith) c.single.ensures c.if-not-single.true
+    fails (single a.roster.now) l.last l.invariant.1 (omega arith) c.single.ensures (ap not c.if-not-single.true)
 
 pub loop-last-preserved : goal.loop-last-preserved
 loop-last-preserved c =
     let l = c.loop-last in
     let a = c.args in
-    (omega arith, next (single a.roster.now) l.last l.invariant.1 (omega arith) c.single.ensures c.if-not-single.false)
+    (omega arith, next (single a.roster.now) l.last l.invariant.1 (omega arith) c.single.ensures (ap not c.if-not-single.false))
 
 pub returns : goal.returns
 returns c =

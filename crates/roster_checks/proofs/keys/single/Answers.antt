@@ -7,11 +7,9 @@ use native.Mathlib.Omega.{arith}
 use Rattle.words.specs.BigEndian.{same}
 use Rattle.roster.specs.Roster.{key_of, every_replica, single}
 use Rattle.roster.proofs.EveryReplica.{fails, next, done}
+use mathlib.Core.Path.{ap}
+use Rattle.roster_checks.proofs.keys.single.Invariants.{other}
 use Rattle.roster_checks.proofs.keys.single.Goals as goal
-
--- replica j's key is not k's
-abbrev other : List ℕ → ℕ → ℕ → Bool
-other roster k j = not (same (key_of roster j) (key_of roster k))
 
 pub loop-j-init : goal.loop-j-init
 unfolding single
@@ -24,13 +22,13 @@ pub returns-then-not-differ : goal.returns-then-not-differ
 returns-then-not-differ c =
     let l = c.loop-j in
     let a = c.args in
-    fails (other a.roster.now a.k) l.j l.invariant.1 (omega arith) c.differ.ensures c.if-not-differ.true
+    fails (other a.roster.now a.k) l.j l.invariant.1 (omega arith) c.differ.ensures (ap not c.if-not-differ.true)
 
 pub loop-j-preserved : goal.loop-j-preserved
 loop-j-preserved c =
     let l = c.loop-j in
     let a = c.args in
-    (omega arith, next (other a.roster.now a.k) l.j l.invariant.1 (omega arith) c.differ.ensures c.if-not-differ.false)
+    (omega arith, next (other a.roster.now a.k) l.j l.invariant.1 (omega arith) c.differ.ensures (ap not c.if-not-differ.false))
 
 pub returns : goal.returns
 returns c =

@@ -9,6 +9,10 @@ use Rattle.roster.specs.Roster.{key_of, every_replica, single}
 use Rattle.roster.proofs.EveryReplica.{fails, next, done}
 use Rattle.roster_checks.proofs.keys.single.Given as goal
 
+-- replica j's key is not k's
+abbrev pub other : List ℕ → ℕ → ℕ → Bool
+other roster k j = not (same (key_of roster j) (key_of roster k))
+
 abbrev pub invariant-loop-j : goal.invariant-loop-j
 invariant-loop-j l =
     (l.j ≤ l.k - 1) × (every_replica l.j (other l.roster l.k) ≡ single l.roster l.k)
