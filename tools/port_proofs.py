@@ -177,6 +177,11 @@ class Function:
                     break
             return "c." + path
         chain = self.chain()
+        if first == "type-inv":
+            # port.py took a function of this name for a word of Rattle's.
+            first = "typed" if any(self.place[x][2][0] == "typed" for x in chain) else "type_inv"
+            if first == "type_inv":
+                return "c.type_inv" + dot + rest
         found = [(abs(i - steps), i) for i, at in enumerate(chain) if plain(self.place[at][2][0]) == plain(first)]
         if not found:
             self.left.append(f"{where}: .{path}, {steps} above {self.at}: no such step in {[self.place[x][2][0] for x in chain]}")
@@ -238,7 +243,15 @@ class Function:
             head, _, name = old.lstrip(".").partition(" .")
             if head == "args" and re.fullmatch(r"t\d+", name):
                 text = re.sub(rf"\.{name}(?![\w-])", "." + new.rpartition(" .")[2], text)
-        return re.sub(rf"(?<![^\s(,{{\[])({heads})((?:\.before)*)((?:\.(?!before\b){NAME})+)()", to, text)
+        text = re.sub(rf"(?<![^\s(,{{\[])({heads})((?:\.before)*)((?:\.(?!before\b){NAME})+)()", to, text)
+        text = re.sub(r"\bnot[-_](?:true|false) _ (c\.if-not-[^\s(),;]*\.(?:true|false))", r"@\1", text)
+        text = re.sub(r"(?<![@\w])(c\.if-not-[^\s(),;]*\.(?:true|false))(?![^\s(),;}\]])", r"(ap not \1)", text).replace("@c.", "c.")
+        # names of steps: what a call wrote, by its parameter
+        for m in list(re.finditer(rf"let ({NAME}) = c\.([^\s.]+) in", text)):
+            callee = [x[3] for x in self.e["places"] if x[2][1] == m.group(2) and x[3]]
+            for n, w in enumerate(lent(callee[0]) if callee else []):
+                text = re.sub(rf"(?<![^\s(,{{\[]){re.escape(m.group(1))}\.new\.{n}(?=[^\d])", f"{m.group(1)}.new.{w}", text)
+        return text
 
 
 def invariant(fn, decl, params, body, loop, k):
@@ -282,6 +295,18 @@ def split(item, name):
         else:
             clauses.append(b)
     return comments, sig, unfolding, clauses
+
+
+def named(fn, body, goal):
+    """A body that answers several named clauses, as a record of them."""
+    if goal.startswith("returns"):
+        return as_record(body, clauses(fn.crate, fn.name, "ensures"))
+    if "-requires" in goal:
+        step = goal.partition("-requires")[0]
+        callee = [x[3] for x in fn.e["places"] if x[3] and (x[2][1] == step or x[2][1].startswith(step))]
+        if callee:
+            return as_record(body, clauses(*callee[0].partition("::")[::2], "requires"))
+    return body
 
 
 def convert(crate, name, entry, keep, dropped):
@@ -358,15 +383,7 @@ def convert(crate, name, entry, keep, dropped):
                 body = c[m.end() :]
                 if params and params[0] != "c":
                     fn.left.append(f"{new}: parameters {params}")
-                body = fn.body(body, at, where)
-                if new.startswith("returns"):
-                    body = as_record(body, clauses(crate, name, "ensures"))
-                elif "-requires" in new:
-                    step = new.partition("-requires")[0]
-                    callee = [x[3] for x in entry["places"] if x[3] and (x[2][1] == step or x[2][1].startswith(step))]
-                    if callee:
-                        body = as_record(body, clauses(*callee[0].partition("::")[::2], "requires"))
-                out.append((params, body))
+                out.append((params, named(fn, fn.body(body, at, where), new)))
             text = "\n".join(f"{new} {' '.join(pp)} ={b}" if pp else f"{new} c = ({b.strip()}) c" for pp, b in out)
             trivial = len(out) == 1 and TRIVIAL.match(out[0][1].strip()) and not p[2]
             item = "\n".join(p[0] + [f"pub {new} : goal.{new}"] + p[2] + [text])
@@ -376,7 +393,7 @@ def convert(crate, name, entry, keep, dropped):
                 item, trivial = f"pub {new} : goal.{new}\n{new} c = {a} c", False
                 fn.left.append(f"{new}: {a}")
             else:
-                body = fn.body(m.group(2), at, where)
+                body = named(fn, fn.body(m.group(2), at, where), new)
                 trivial = bool(TRIVIAL.match(body.strip()))
                 item = f"pub {new} : goal.{new}\n{new} c = {body}"
         if new in done:
@@ -386,23 +403,28 @@ def convert(crate, name, entry, keep, dropped):
             dropped[f"{name}/{new}"] = item
         else:
             answers.append(item)
-    helpers = []
+    helpers, shared = [], []
     for n, x in decls:
-        if n not in used:
+        if n in used:
+            continue
+        if "tie." in x:
+            fn.left.append(f"helper {n} names Tie")
+        if any(re.search(rf"(?<![^\s(,{{\[]){re.escape(n)}(?![^\s),;}}\]])", y) for y in inv + [z for m, z in decls if m in shared]):
+            shared.append(n)
+        else:
             helpers.append(x)
-            if "tie." in x:
-                fn.left.append(f"helper {n} names Tie")
+    kept_here = [re.sub(rf"(?m)^((?:unfoldable |abbrev )*)({re.escape(n)}\s*:)", r"\1pub \2", x) for n, x in decls if n in shared]
     path = f"Rattle.{crate}.proofs.{name.replace('/', '.')}"
     prose = [h for h in head]
     prose = ["\n".join(l for h in prose for l in h.split("\n") if not re.match(r"-- (Assumes nothing|The needs are)", l))]
     prose = [p for p in prose if p]
     if inv:
-        write(f"{folder}/Invariants.antt", "\n".join(prose + uses + [f"use {path}.Given as goal"]) + "\n\n" + "\n\n".join(inv) + "\n")
+        write(f"{folder}/Invariants.antt", "\n".join(prose + uses + [f"use {path}.Given as goal"]) + "\n\n" + "\n\n".join(kept_here + inv) + "\n")
     if answers:
-        extra = []
+        extra = [f"use {path}.Invariants.{{{', '.join(shared)}}}"] if shared else []
         write(
             f"{folder}/Answers.antt",
-            "\n".join(prose + uses + extra + [f"use {path}.Goals as goal"]) + "\n\n" + "\n\n".join(helpers + answers) + "\n",
+            "\n".join(prose + imports(uses, "\n".join(answers)) + extra + [f"use {path}.Goals as goal"]) + "\n\n" + "\n\n".join(helpers + answers) + "\n",
         )
     elif helpers:
         fn.left.append("helpers without answers: " + ", ".join(n for n, x in decls if n not in used))
@@ -411,6 +433,16 @@ def convert(crate, name, entry, keep, dropped):
     if not os.listdir(folder):
         os.rmdir(folder)
     return fn.left
+
+
+def imports(uses, text):
+    """Adds what the conversion itself needs."""
+    out = list(uses)
+    if "ap not" in text:
+        for module, word in (("mathlib.Core.Path", "ap"), ("mathlib.Core.Bool", "not")):
+            if not any(re.search(rf"[{{ ]{word}[,}}]", u) for u in out):
+                out.append(f"use {module}.{{{word}}}")
+    return out
 
 
 def restore(crate, goals):

@@ -12,6 +12,6 @@ pub returns : goal.returns
 returns c =
     let a = c.args in
     let bytes = c.put_bytes in
-    let word : Put a.out.now bytes.new.0 a.at (a.at + length a.word.now) a.word.now (length a.word.now) =
+    let word : Put a.out.now bytes.new.out a.at (a.at + length a.word.now) a.word.now (length a.word.now) =
     record { stored = bytes.ensures; after = refl; few = le_refl (length a.word.now) } in
     put_then word c.put_decimal.ensures

@@ -1,16 +1,11 @@
 -- The bytes of eight zero words.
--- Assumes nothing.
 use mathlib.Core.Path.{refl}
 use mathlib.Core.List.{flat_map}
 use Rattle.words.specs.BigEndian.{be}
 use Rattle.sha256.specs.Sha256.{bytes_of, words_of}
 use Rattle.log_chain.specs.Log.{pointer, pointer_from}
-use Rattle.log_terms.proofs.pointers.pointers_zero.Statement.{statement}
-use Rattle.log_terms.proofs.pointers.pointers_zero.Tie as tie
+use Rattle.log_terms.proofs.pointers.pointers_zero.Goals as goal
 
-returns : tie.Need-returns
+pub returns : goal.returns
 unfolding bytes_of words_of flat_map be pointer pointer_from
 returns c form = record { committed = refl; last = refl }
-
-pub pointers-zero-spec : {M : Type 1} → statement M
-pointers-zero-spec = tie.close (tie.spec returns)
