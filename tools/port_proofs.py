@@ -194,11 +194,11 @@ class Function:
             names = [a for b, a in self.typed.get(at, {}).items() if plain(b) == plain(first)]
             if names:
                 return f"c.type_inv.{names[0]}" + rest[len("given") :]
-        m = re.match(r"new\.(\d+)(?=\.|$)", rest)
+        m = re.match(r"(new|auto)\.(\d+)(?=\.|$)", rest)
         if m:
             names = lent(self.place[at][3])
-            if int(m.group(1)) < len(names):
-                rest = f"new.{names[int(m.group(1))]}" + rest[m.end() :]
+            if int(m.group(2)) < len(names):
+                rest = f"{m.group(1)}.{names[int(m.group(2))]}" + rest[m.end() :]
             else:
                 self.left.append(f"{where}: .{path} of {self.place[at][3]}")
         arm = self.e["arms"][[x[0] for x in self.e["places"]].index(at)]
@@ -250,7 +250,7 @@ class Function:
         for m in list(re.finditer(rf"let ({NAME}) = c\.([^\s.]+) in", text)):
             callee = [x[3] for x in self.e["places"] if x[2][1] == m.group(2) and x[3]]
             for n, w in enumerate(lent(callee[0]) if callee else []):
-                text = re.sub(rf"(?<![^\s(,{{\[]){re.escape(m.group(1))}\.new\.{n}(?=[^\d])", f"{m.group(1)}.new.{w}", text)
+                text = re.sub(rf"(?<![^\s(,{{\[]){re.escape(m.group(1))}\.(new|auto)\.{n}(?=[^\d])", rf"{m.group(1)}.\1.{w}", text)
         return text
 
 

@@ -14,11 +14,11 @@ pub put_bytes-requires : goal.put_bytes-requires
 put_bytes-requires c =
     let put = c.put_u32 in
     let p = c.requires in
-    rw length-set (omega (arith, put.auto.0, p.0, p.2))
+    rw length-set (omega (arith, put.auto.out, p.0, p.2))
 
 pub shape_of-buffer : goal.shape_of-buffer
 shape_of-buffer c =
-    rw length-set at c.put_bytes.auto.0 ∙ c.put_u32.auto.0
+    rw length-set at c.put_bytes.auto.out ∙ c.put_u32.auto.out
 
 pub returns : goal.returns
 returns c =
