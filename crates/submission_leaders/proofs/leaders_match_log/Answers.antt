@@ -32,12 +32,12 @@ loop-left-init c =
     let all = runs-all a.shape.width a.shape.records a.s.now in
     let none : a.shape.leaders - a.shape.leaders ≡ 0 = omega arith in
     let begun = c.walk_start-walked.ensures in
-    rw begun.0 (
+    rw begun.end (
       omega arith,
       omega arith,
       sym (run-count _ _ p.0 p.1) ∙ ap length (sym all),
       leaders-room _ _ p.0,
-      rw (take-nil {A = Record} c.commit_index-commit.result) (begun.1 (with_terms a.shape.width [])),
+      rw (take-nil {A = Record} c.commit_index-commit.result) (begun.pointed (with_terms a.shape.width [])),
       (λ name. rw (none, all, ← known-leads _ _ p.0, ← known-leaders _ _ p.0, ← known-stamps _ _ p.0)),
     )
 
@@ -54,14 +54,14 @@ leading-requires c =
     let a = c.args in
     let s = a.s.now in
     let inside = first-inside a.shape.width a.shape.size s l.left l.place (omega (arith, c.loop-left-test.true)) l.invariant.3 in
-    (c.requires.0.bounds.width, le_trans (certificate-head a.shape.width a.shape.size s l.place) inside, upto-room _ _ c.requires.0 _ l.invariant.1, upto-room _ _ c.requires.0 _ c.next_run-next.ensures.0.1, l.invariant.4.last)
+    (c.requires.0.bounds.width, le_trans (certificate-head a.shape.width a.shape.size s l.place) inside, upto-room _ _ c.requires.0 _ l.invariant.1, upto-room _ _ c.requires.0 _ c.next_run-next.ensures.ends.1, l.invariant.4.last)
 
 pub returns-then-not-leading : goal.returns-then-not-leading
 returns-then-not-leading c =
     let l = c.loop-left in
     let a = c.args in record { holds = (λ name.
           lead-fails a.shape.width a.shape.size a.s.now (leading (with_terms a.shape.width name) a.n) l.left l.place (runs_left a.shape.width a.shape.records l.walked.end a.s.now) a.shape.leaders _
-          (l.invariant.5 name) (omega (arith, c.loop-left-test.true)) l.invariant.0 (stamp-count _ _ c.requires.0) _ _ c.next_run-next.ensures.1.1
+          (l.invariant.5 name) (omega (arith, c.loop-left-test.true)) l.invariant.0 (stamp-count _ _ c.requires.0) _ _ c.next_run-next.ensures.pointed.1
           (c.leading.ensures name) (ap not c.if-not-leading.true)); pointers = c.pointers_zero.ensures (with_terms a.shape.width []) }
 
 pub certificate_end-place-requires : goal.certificate_end-place-requires
@@ -85,14 +85,14 @@ loop-left-preserved c =
     let walked = c.next_run-next.ensures in
     let place = c.certificate_end-place.ensures in (
       omega arith,
-      walked.0.1,
-      omega (arith, l.invariant.2, ap length walked.1.1),
+      walked.ends.1,
+      omega (arith, l.invariant.2, ap length walked.pointed.1),
       rw place (rest-inside a.shape.width a.shape.size s l.left l.place more l.invariant.3),
-      walked.1.0,
+      walked.pointed.0,
       (λ name.
           rw place
           (lead-next a.shape.width a.shape.size s (leading (with_terms a.shape.width name) a.n) l.left l.place (runs_left a.shape.width a.shape.records l.walked.end s) a.shape.leaders _
-          (l.invariant.5 name) more l.invariant.0 (stamp-count _ _ c.requires.0) _ _ walked.1.1 (c.leading.ensures name) (ap not c.if-not-leading.false))),
+          (l.invariant.5 name) more l.invariant.0 (stamp-count _ _ c.requires.0) _ _ walked.pointed.1 (c.leading.ensures name) (ap not c.if-not-leading.false))),
     )
 
 pub returns : goal.returns

@@ -46,11 +46,11 @@ put_place_statement-end-requires c =
 
 pub slice_bounds-statement-end : goal.slice_bounds-statement-end
 slice_bounds-statement-end c =
-    let put = c.put_place_statement-end in written-inside _ _ _ _ put.ensures.0 put.ensures.1
+    let put = c.put_place_statement-end in written-inside _ _ _ _ put.ensures.size put.ensures.bytes
 
 pub slice_bounds-certificate_signatures_good-end : goal.slice_bounds-certificate_signatures_good-end
 slice_bounds-certificate_signatures_good-end c =
-    let put = c.put_place_statement-end in written-long _ _ _ _ put.ensures.0 put.ensures.1
+    let put = c.put_place_statement-end in written-long _ _ _ _ put.ensures.size put.ensures.bytes
 
 pub overflow_add-at : goal.overflow_add-at
 unfolding commit_end
@@ -86,6 +86,6 @@ returns c =
     let inside = commit-within _ _ _ c.requires.0.counted.laid _ c.requires.2 c.requires.0.commit in
     c.certificate_signatures_good.ensures
     ∙ ap₂ (λ (m : List ℕ) (mask : ℕ). good_all roster m a.shape.size (replicas_of mask) (drop (a.at + 6) s))
-    (written _ _ _ _ c.put_place_statement-end.ensures.0 c.put_place_statement-end.ensures.1
+    (written _ _ _ _ c.put_place_statement-end.ensures.size c.put_place_statement-end.ensures.bytes
     ∙ ap₂ (λ (t i : ℕ). place_statement 2 (cluster roster) w t i (bytes_of a.pointer)) term index) c.u16_at.ensures.0
     ∙ receipt-slots roster s w a.shape.size a.at a.shape.records (bytes_of a.pointer) inside c.requires.3

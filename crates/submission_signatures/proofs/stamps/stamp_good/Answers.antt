@@ -32,11 +32,11 @@ u16_at-requires c = omega arith
 
 pub slice_bounds-statement-end : goal.slice_bounds-statement-end
 slice_bounds-statement-end c =
-    let put = c.put_place_statement-length in written-inside _ _ _ _ put.ensures.0 put.ensures.1
+    let put = c.put_place_statement-length in written-inside _ _ _ _ put.ensures.size put.ensures.bytes
 
 pub slice_bounds-signature_genuine-end : goal.slice_bounds-signature_genuine-end
 slice_bounds-signature_genuine-end c =
-    let put = c.put_place_statement-length in written-long _ _ _ _ put.ensures.0 put.ensures.1
+    let put = c.put_place_statement-length in written-long _ _ _ _ put.ensures.size put.ensures.bytes
 
 pub signature_genuine-requires : goal.signature_genuine-requires
 signature_genuine-requires c =
@@ -53,7 +53,7 @@ returns c =
     c.signature_genuine.ensures
     ∙ rw (
       c.u16_at.ensures.0,
-      written _ _ _ _ c.put_place_statement-length.ensures.0 c.put_place_statement-length.ensures.1,
+      written _ _ _ _ c.put_place_statement-length.ensures.size c.put_place_statement-length.ensures.bytes,
       c.number_at-term.ensures.0,
       count,
     )

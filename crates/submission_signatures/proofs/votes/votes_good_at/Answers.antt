@@ -42,11 +42,11 @@ put_vote_statement-length-requires c =
 
 pub slice_bounds-statement-end : goal.slice_bounds-statement-end
 slice_bounds-statement-end c =
-    let put = c.put_vote_statement-length in written-inside _ _ _ _ put.ensures.0 put.ensures.1
+    let put = c.put_vote_statement-length in written-inside _ _ _ _ put.ensures.size put.ensures.bytes
 
 pub slice_bounds-certificate_signatures_good-end : goal.slice_bounds-certificate_signatures_good-end
 slice_bounds-certificate_signatures_good-end c =
-    let put = c.put_vote_statement-length in written-long _ _ _ _ put.ensures.0 put.ensures.1
+    let put = c.put_vote_statement-length in written-long _ _ _ _ put.ensures.size put.ensures.bytes
 
 pub u16_at-requires : goal.u16_at-requires
 unfolding certificate_end
@@ -78,6 +78,6 @@ returns c =
     let head = certificate-head a.width a.size s a.at in
     c.certificate_signatures_good.ensures
     ∙ ap₂ (λ (m : List ℕ) (mask : ℕ). good_all roster m a.size (replicas_of mask) (drop (a.at + c.ballot_size.result + 2) s))
-    (written _ _ _ _ c.put_vote_statement-length.ensures.0 c.put_vote_statement-length.ensures.1
+    (written _ _ _ _ c.put_vote_statement-length.ensures.size c.put_vote_statement-length.ensures.bytes
     ∙ ap (λ (n : ℕ). 3 ∷ cluster roster ++ take n (drop a.at s)) count) c.u16_at.ensures.0
     ∙ rw fields (vote-slots roster s a.width a.size a.at (bytes_each s each) (omega (arith, head, c.requires.3)))
