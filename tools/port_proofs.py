@@ -194,6 +194,12 @@ class Function:
             names = [a for b, a in self.typed.get(at, {}).items() if plain(b) == plain(first)]
             if names:
                 return f"c.type_inv.{names[0]}" + rest[len("given") :]
+        m = re.match(r"auto((?:\.1)*\.0)(?=\.|$)", rest)
+        if m:
+            names = lent(self.place[at][3])
+            n = 0 if len(names) == 1 else m.group(1).count(".1")
+            if n < len(names):
+                return f"c.{new}.auto.{names[n]}" + rest[m.end() :]
         m = re.match(r"(new|auto)\.(\d+)(?=\.|$)", rest)
         if m:
             names = lent(self.place[at][3])
@@ -249,6 +255,8 @@ class Function:
         # names of steps: what a call wrote, by its parameter
         for m in list(re.finditer(rf"let ({NAME}) = c\.([^\s.]+) in", text)):
             callee = [x[3] for x in self.e["places"] if x[2][1] == m.group(2) and x[3]]
+            if callee and len(lent(callee[0])) == 1:
+                text = re.sub(rf"(?<![^\s(,{{\[]){re.escape(m.group(1))}\.auto(?:\.1)*\.0(?=[^\d])", rf"{m.group(1)}.auto.{lent(callee[0])[0]}", text)
             for n, w in enumerate(lent(callee[0]) if callee else []):
                 text = re.sub(rf"(?<![^\s(,{{\[]){re.escape(m.group(1))}\.(new|auto)\.{n}(?=[^\d])", rf"{m.group(1)}.\1.{w}", text)
         return text
@@ -383,7 +391,7 @@ def convert(crate, name, entry, keep, dropped):
                 body = c[m.end() :]
                 if params and params[0] != "c":
                     fn.left.append(f"{new}: parameters {params}")
-                out.append((params, named(fn, fn.body(body, at, where), new)))
+                out.append((params, named(fn, by_clause(fn.body(body, at, where), entry), new)))
             text = "\n".join(f"{new} {' '.join(pp)} ={b}" if pp else f"{new} c = ({b.strip()}) c" for pp, b in out)
             trivial = len(out) == 1 and TRIVIAL.match(out[0][1].strip()) and not p[2]
             item = "\n".join(p[0] + [f"pub {new} : goal.{new}"] + p[2] + [text])
@@ -393,7 +401,7 @@ def convert(crate, name, entry, keep, dropped):
                 item, trivial = f"pub {new} : goal.{new}\n{new} c = {a} c", False
                 fn.left.append(f"{new}: {a}")
             else:
-                body = named(fn, fn.body(m.group(2), at, where), new)
+                body = named(fn, by_clause(fn.body(m.group(2), at, where), entry), new)
                 trivial = bool(TRIVIAL.match(body.strip()))
                 item = f"pub {new} : goal.{new}\n{new} c = {body}"
         if new in done:

@@ -61,7 +61,7 @@ returns-then-not-leading c =
     let l = c.loop-left in
     let a = c.args in record { holds = (λ name.
           lead-fails a.shape.width a.shape.size a.s.now (leading (with_terms a.shape.width name) a.n) l.left l.place (runs_left a.shape.width a.shape.records l.walked.end a.s.now) a.shape.leaders _
-          (l.invariant.5 name) (omega (arith, c.loop-left-test.true)) l.invariant.0 (stamp-count _ _ c.requires.0) _ _ c.next_run-next.ensures.pointed.1
+          (l.invariant.5 name) (omega (arith, c.loop-left-test.true)) l.invariant.0 (stamp-count _ _ c.requires.0) _ _ c.next_run-next.ensures.runs
           (c.leading.ensures name) (ap not c.if-not-leading.true)); pointers = c.pointers_zero.ensures (with_terms a.shape.width []) }
 
 pub certificate_end-place-requires : goal.certificate_end-place-requires
@@ -86,13 +86,13 @@ loop-left-preserved c =
     let place = c.certificate_end-place.ensures in (
       omega arith,
       walked.ends.1,
-      omega (arith, l.invariant.2, ap length walked.pointed.1),
+      omega (arith, l.invariant.2, ap length walked.runs),
       rw place (rest-inside a.shape.width a.shape.size s l.left l.place more l.invariant.3),
-      walked.pointed.0,
+      walked.pointed,
       (λ name.
           rw place
           (lead-next a.shape.width a.shape.size s (leading (with_terms a.shape.width name) a.n) l.left l.place (runs_left a.shape.width a.shape.records l.walked.end s) a.shape.leaders _
-          (l.invariant.5 name) more l.invariant.0 (stamp-count _ _ c.requires.0) _ _ walked.pointed.1 (c.leading.ensures name) (ap not c.if-not-leading.false))),
+          (l.invariant.5 name) more l.invariant.0 (stamp-count _ _ c.requires.0) _ _ walked.runs (c.leading.ensures name) (ap not c.if-not-leading.false))),
     )
 
 pub returns : goal.returns
