@@ -239,6 +239,8 @@ class Function:
             if head == "args" and re.fullmatch(r"t\d+", name):
                 text = re.sub(rf"\.{name}(?![\w-])", "." + new.rpartition(" .")[2], text)
         text = re.sub(rf"(?<![^\s(,{{\[])({heads})((?:\.before)*)((?:\.(?!before\b){NAME})+)()", to, text)
+        # the test of `if !b` says itself that b is false
+        text = re.sub(rf"\bnot-(?:true|false) _ (c\.if-not-{NAME}\.(?:true|false))(?![\w-])", r"\1", text)
         # `let x = c.call in .. x.new.0`
         callees = {x[2][1]: x[3] for x in self.e["places"] if x[3]}
         for name, step in re.findall(rf"let ({NAME}) = c\.({NAME}) in(?=\s)", text):
