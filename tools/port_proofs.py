@@ -177,6 +177,11 @@ class Function:
                     break
             return "c." + path
         chain = self.chain()
+        if first == "type-inv":
+            # port.py took a function of this name for a word of Rattle's.
+            first = "typed" if any(self.place[x][2][0] == "typed" for x in chain) else "type_inv"
+            if first == "type_inv":
+                return "c.type_inv" + dot + rest
         found = [(abs(i - steps), i) for i, at in enumerate(chain) if plain(self.place[at][2][0]) == plain(first)]
         if not found:
             self.left.append(f"{where}: .{path}, {steps} above {self.at}: no such step in {[self.place[x][2][0] for x in chain]}")
@@ -239,17 +244,13 @@ class Function:
             if head == "args" and re.fullmatch(r"t\d+", name):
                 text = re.sub(rf"\.{name}(?![\w-])", "." + new.rpartition(" .")[2], text)
         text = re.sub(rf"(?<![^\s(,{{\[])({heads})((?:\.before)*)((?:\.(?!before\b){NAME})+)()", to, text)
-        # the test of `if !b` says itself that b is false
-        text = re.sub(rf"\bnot-(?:true|false) _ (c\.if-not-{NAME}\.(?:true|false))(?![\w-])", r"\1", text)
-        # `let x = c.call in .. x.new.0`
-        callees = {x[2][1]: x[3] for x in self.e["places"] if x[3]}
-        for name, step in re.findall(rf"let ({NAME}) = c\.({NAME}) in(?=\s)", text):
-            names = lent(callees.get(step))
-            text = re.sub(
-                rf"(?<![^\s(,{{\[]){re.escape(name)}\.new\.(\d+)(?![\w-])",
-                lambda m: f"{name}.new.{names[int(m.group(1))]}" if int(m.group(1)) < len(names) else m.group(),
-                text,
-            )
+        text = re.sub(r"\bnot[-_](?:true|false) _ (c\.if-not-[^\s(),;]*\.(?:true|false))", r"@\1", text)
+        text = re.sub(r"(?<![@\w])(c\.if-not-[^\s(),;]*\.(?:true|false))(?![^\s(),;}\]])", r"(ap not \1)", text).replace("@c.", "c.")
+        # names of steps: what a call wrote, by its parameter
+        for m in list(re.finditer(rf"let ({NAME}) = c\.([^\s.]+) in", text)):
+            callee = [x[3] for x in self.e["places"] if x[2][1] == m.group(2) and x[3]]
+            for n, w in enumerate(lent(callee[0]) if callee else []):
+                text = re.sub(rf"(?<![^\s(,{{\[]){re.escape(m.group(1))}\.new\.{n}(?=[^\d])", f"{m.group(1)}.new.{w}", text)
         return text
 
 
@@ -402,23 +403,28 @@ def convert(crate, name, entry, keep, dropped):
             dropped[f"{name}/{new}"] = item
         else:
             answers.append(item)
-    helpers = []
+    helpers, shared = [], []
     for n, x in decls:
-        if n not in used:
+        if n in used:
+            continue
+        if "tie." in x:
+            fn.left.append(f"helper {n} names Tie")
+        if any(re.search(rf"(?<![^\s(,{{\[]){re.escape(n)}(?![^\s),;}}\]])", y) for y in inv + [z for m, z in decls if m in shared]):
+            shared.append(n)
+        else:
             helpers.append(x)
-            if "tie." in x:
-                fn.left.append(f"helper {n} names Tie")
+    kept_here = [re.sub(rf"(?m)^((?:unfoldable |abbrev )*)({re.escape(n)}\s*:)", r"\1pub \2", x) for n, x in decls if n in shared]
     path = f"Rattle.{crate}.proofs.{name.replace('/', '.')}"
     prose = [h for h in head]
     prose = ["\n".join(l for h in prose for l in h.split("\n") if not re.match(r"-- (Assumes nothing|The needs are)", l))]
     prose = [p for p in prose if p]
     if inv:
-        write(f"{folder}/Invariants.antt", "\n".join(prose + uses + [f"use {path}.Given as goal"]) + "\n\n" + "\n\n".join(inv) + "\n")
+        write(f"{folder}/Invariants.antt", "\n".join(prose + uses + [f"use {path}.Given as goal"]) + "\n\n" + "\n\n".join(kept_here + inv) + "\n")
     if answers:
-        extra = []
+        extra = [f"use {path}.Invariants.{{{', '.join(shared)}}}"] if shared else []
         write(
             f"{folder}/Answers.antt",
-            "\n".join(prose + uses + extra + [f"use {path}.Goals as goal"]) + "\n\n" + "\n\n".join(helpers + answers) + "\n",
+            "\n".join(prose + imports(uses, "\n".join(answers)) + extra + [f"use {path}.Goals as goal"]) + "\n\n" + "\n\n".join(helpers + answers) + "\n",
         )
     elif helpers:
         fn.left.append("helpers without answers: " + ", ".join(n for n, x in decls if n not in used))
@@ -427,6 +433,16 @@ def convert(crate, name, entry, keep, dropped):
     if not os.listdir(folder):
         os.rmdir(folder)
     return fn.left
+
+
+def imports(uses, text):
+    """Adds what the conversion itself needs."""
+    out = list(uses)
+    if "ap not" in text:
+        for module, word in (("mathlib.Core.Path", "ap"), ("mathlib.Core.Bool", "not")):
+            if not any(re.search(rf"[{{ ]{word}[,}}]", u) for u in out):
+                out.append(f"use {module}.{{{word}}}")
+    return out
 
 
 def restore(crate, goals):

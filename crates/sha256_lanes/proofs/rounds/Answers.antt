@@ -2,13 +2,13 @@
 use Prim.Native.Nat.{ℕ, ◌+◌, ◌-◌, ◌%◌, ◌≤◌, ◌<◌}
 use mathlib.Core.Path.{◌≡◌, refl, sym, ap, ◌∙◌}
 use mathlib.Core.List.{List}
-use mathlib.Core.Logic.{⊎_elim}
 use native.Mathlib.Omega.{arith}
 use lib.ListN.{length, get_or}
 use Rattle.sha256.specs.Sha256.{schedule, rounds}
 use Rattle.sha256_lanes.specs.Lane.{Lane, state, word_in}
 use Rattle.sha256_lanes.proofs.Turns.{alike, block-word, round_turn}
 use Rattle.sha256_lanes.proofs.rounds.Goals as goal
+use Rattle.sha256_lanes.proofs.rounds.Goals.{then-i-ge-BLOCK_WORDS, else-i-ge-BLOCK_WORDS}
 
 pub loop-i-init : goal.loop-i-init
 unfolding rounds
@@ -26,7 +26,7 @@ pub at-requires-in-loop-i : goal.at-requires-in-loop-i
 at-requires-in-loop-i c =
     let t = c.loop-i in
     let sized : length c.if-i-ge-BLOCK_WORDS.w ≡ 256 =
-    ⊎_elim (λ p. let e = ap length p.5 in omega (arith, e, t.invariant.3)) (λ p. ap length p.1 ∙ t.invariant.3) c.if-i-ge-BLOCK_WORDS.branch in
+    elim c.if-i-ge-BLOCK_WORDS.branch [ then-i-ge-BLOCK_WORDS w ↦ let e = ap length w.w-is in omega (arith, e, t.invariant.3) | else-i-ge-BLOCK_WORDS w ↦ ap length w.w-is ∙ t.invariant.3 ] in
     omega (arith, sized)
 
 pub at-requires-in-loop-i-2 : goal.at-requires-in-loop-i-2
@@ -36,14 +36,14 @@ pub at-requires-in-loop-i-3 : goal.at-requires-in-loop-i-3
 at-requires-in-loop-i-3 c =
     let t = c.loop-i in
     let sized : length c.if-i-ge-BLOCK_WORDS.w ≡ 256 =
-    ⊎_elim (λ p. let e = ap length p.5 in omega (arith, e, t.invariant.3)) (λ p. ap length p.1 ∙ t.invariant.3) c.if-i-ge-BLOCK_WORDS.branch in
+    elim c.if-i-ge-BLOCK_WORDS.branch [ then-i-ge-BLOCK_WORDS w ↦ let e = ap length w.w-is in omega (arith, e, t.invariant.3) | else-i-ge-BLOCK_WORDS w ↦ ap length w.w-is ∙ t.invariant.3 ] in
     omega (arith, sized, t.invariant.2)
 
 pub loop-i-preserved : goal.loop-i-preserved
 loop-i-preserved c =
     let t = c.loop-i in
     let sized : length c.if-i-ge-BLOCK_WORDS.w ≡ 256 =
-    ⊎_elim (λ p. let e = ap length p.5 in omega (arith, e, t.invariant.3)) (λ p. ap length p.1 ∙ t.invariant.3) c.if-i-ge-BLOCK_WORDS.branch in
+    elim c.if-i-ge-BLOCK_WORDS.branch [ then-i-ge-BLOCK_WORDS w ↦ let e = ap length w.w-is in omega (arith, e, t.invariant.3) | else-i-ge-BLOCK_WORDS w ↦ ap length w.w-is ∙ t.invariant.3 ] in
     let b = c.if-i-ge-BLOCK_WORDS in
     let more : t.i < 64 = c.loop-i-test.true in
     let p = c.requires in (
@@ -55,10 +55,11 @@ loop-i-preserved c =
       λ l m long e.
           let last = t.invariant.5 l m long e in
           let words : (n : ℕ) → n < 16 + (t.i + 2 - 16) → word_in l b.w n ≡ get_or (schedule m) n 0 =
-          λ n h. ⊎_elim
-          (λ p. ap (λ (w : List ℕ). word_in l w n) p.5 ∙ p.2.ensures l m long (omega (arith, more, t.invariant.2)) (λ n h. last.0 n (omega arith)) n (omega arith))
-          (λ p. ap (λ (w : List ℕ). word_in l w n) p.1 ∙ last.0 n (omega (arith, t.invariant.2)))
-          b.branch in (
+          λ n h. elim b.branch [
+            | then-i-ge-BLOCK_WORDS w ↦
+                ap (λ (x : List ℕ). word_in l x n) w.w-is ∙ w.words_at.ensures l m long (omega (arith, more, t.invariant.2)) (λ n h. last.0 n (omega arith)) n (omega arith)
+            | else-i-ge-BLOCK_WORDS w ↦ ap (λ (x : List ℕ). word_in l x n) w.w-is ∙ last.0 n (omega (arith, t.invariant.2))
+          ] in (
             words,
             round_turn t.i (schedule m) _ _ _ _ _ _ _ t.invariant.0
                 (c.at.ensures l ∙ p.2 l t.i (omega arith))

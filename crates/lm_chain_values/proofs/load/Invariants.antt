@@ -1,0 +1,15 @@
+-- One value a turn.
+use Prim.Native.Nat.{ℕ, ◌-◌, ◌*◌, ◌≤◌, ◌<◌}
+use mathlib.Core.Path.{◌≡◌, refl, sym, ◌∙◌}
+use native.Mathlib.Omega.{arith}
+use lib.ListN.{length, take, drop}
+use Rattle.lm_chain_values.specs.Values.{value_at}
+use Rattle.lm_digits.proofs.Counting.{one_more}
+use Rattle.sha256_lane_words.proofs.Places.{changed-same, changed-other}
+use Rattle.lm_chain_values.proofs.load.Given as goal
+
+abbrev pub invariant-loop-i : goal.invariant-loop-i
+invariant-loop-i l = (l.i ≤ l.count) × (length l.v ≡ 2120) × ((k : ℕ) → k < l.i → value_at l.v k ≡ take 32 (drop (32 * k) l.y))
+
+abbrev pub decreases-loop-i : goal.decreases-loop-i
+decreases-loop-i l = l.count - l.i

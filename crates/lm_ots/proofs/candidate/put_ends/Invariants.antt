@@ -1,0 +1,19 @@
+-- One end a turn, after the ones before it.
+use Prim.Native.Nat.{◌-◌, ◌*◌, ◌≤◌}
+use mathlib.Core.Path.{◌≡◌, refl, sym, ◌∙◌}
+use native.Mathlib.Omega.{arith}
+use lib.ListN.{length, take}
+use lib.Seq.{length-sets}
+use Rattle.sha256.specs.Sha256.{bytes_of}
+use Rattle.lm_hash.specs.Identifier.{identifier}
+use Rattle.lm_hash.proofs.Values.{length-bytes}
+use Rattle.lm_ots.proofs.Rows.{few, joined, joined_step, joined-ends}
+use borrow.Author.Rules.{rules}
+use Rattle.lm_ots.proofs.candidate.put_ends.Given as goal
+
+abbrev pub invariant-loop-i : goal.invariant-loop-i
+invariant-loop-i l =
+    (l.i ≤ l.chains) × (length l.out ≡ length l.initial.out) × (take (32 * l.i) l.out ≡ joined l.v l.i) × (length l.v ≡ 2120)
+
+abbrev pub decreases-loop-i : goal.decreases-loop-i
+decreases-loop-i l = l.chains - l.i
