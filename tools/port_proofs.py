@@ -194,11 +194,11 @@ class Function:
             names = [a for b, a in self.typed.get(at, {}).items() if plain(b) == plain(first)]
             if names:
                 return f"c.type_inv.{names[0]}" + rest[len("given") :]
-        m = re.match(r"new\.(\d+)(?=\.|$)", rest)
+        m = re.match(r"(new|auto)\.(\d+)(?=\.|$)", rest)
         if m:
             names = lent(self.place[at][3])
-            if int(m.group(1)) < len(names):
-                rest = f"new.{names[int(m.group(1))]}" + rest[m.end() :]
+            if int(m.group(2)) < len(names):
+                rest = f"{m.group(1)}.{names[int(m.group(2))]}" + rest[m.end() :]
             else:
                 self.left.append(f"{where}: .{path} of {self.place[at][3]}")
         arm = self.e["arms"][[x[0] for x in self.e["places"]].index(at)]
@@ -250,7 +250,7 @@ class Function:
         for m in list(re.finditer(rf"let ({NAME}) = c\.([^\s.]+) in", text)):
             callee = [x[3] for x in self.e["places"] if x[2][1] == m.group(2) and x[3]]
             for n, w in enumerate(lent(callee[0]) if callee else []):
-                text = re.sub(rf"(?<![^\s(,{{\[]){re.escape(m.group(1))}\.new\.{n}(?=[^\d])", f"{m.group(1)}.new.{w}", text)
+                text = re.sub(rf"(?<![^\s(,{{\[]){re.escape(m.group(1))}\.(new|auto)\.{n}(?=[^\d])", rf"{m.group(1)}.\1.{w}", text)
         return text
 
 
@@ -435,6 +435,46 @@ def convert(crate, name, entry, keep, dropped):
     return fn.left
 
 
+def by_clause(text, entry):
+    """What an answer cites of a callee's clauses by their order, by their names."""
+    for place in entry["places"]:
+        step, callee = place[2][1], place[3]
+        if not callee:
+            continue
+        crate, _, name = callee.partition("::")
+        for kind in ("ensures", "requires"):
+            names = clauses(crate, name, kind)
+            if not names:
+                continue
+            heads = [rf"c\.{re.escape(step)}\.{kind}"]
+            for x in re.findall(rf"let ({NAME}) = c\.{re.escape(step)} in(?=\s)", text):
+                heads.append(rf"{re.escape(x)}\.{kind}")
+            for x in re.findall(rf"let ({NAME}) = c\.{re.escape(step)}\.{kind} in(?=\s)", text):
+                heads.append(re.escape(x))
+            for h in heads:
+                text = re.sub(
+                    rf"(?<![^\s(,{{\[])({h})\.(\d)(?!\d)",
+                    lambda m: f"{m.group(1)}.{names[int(m.group(2))]}" if int(m.group(2)) < len(names) else m.group(),
+                    text,
+                )
+    return text
+
+
+def again(crate):
+    """Names the clauses in answers that were turned already."""
+    entries = json.loads(read(f"{KEEP}/names-{crate}/names.json"))
+    for p in sorted(glob.glob(f"crates/{crate}/proofs/**/Answers.antt", recursive=True)):
+        name = os.path.relpath(os.path.dirname(p), f"crates/{crate}/proofs")
+        entry = entries.get(f"Rattle-{crate}-proofs.{name.replace('/', '.')}.Lts")
+        if entry is None:
+            continue
+        out = []
+        for part in re.split(r"(?m)^(?=pub )", read(p)):
+            out.append(by_clause(part, entry))
+        if "".join(out) != read(p):
+            write(p, "".join(out))
+
+
 def imports(uses, text):
     """Adds what the conversion itself needs."""
     out = list(uses)
@@ -464,6 +504,8 @@ def restore(crate, goals):
 def main(argv):
     keep = "--keep" in argv
     argv = [a for a in argv if a != "--keep"]
+    if argv and argv[0] == "--again":
+        return [again(c) for c in argv[1:]] and None
     if argv and argv[0] == "--restore":
         return restore(argv[1], argv[2:])
     for crate in argv:

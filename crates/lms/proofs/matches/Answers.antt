@@ -1,0 +1,18 @@
+-- The kit's comparison of two slices says whether the lists are the same.
+use mathlib.Core.Path.{ap, ◌∙◌}
+use mathlib.Core.List.{List}
+use Prim.Native.Nat.{ℕ, ◌-◌}
+use lib.ListN.{length, take, drop}
+use Rattle.words.specs.BigEndian.{same}
+use Rattle.words.proofs.Laws.{part_end}
+use Rattle.words.proofs.Same.{same_test}
+use Rattle.sha256.specs.Sha256.{bytes_of}
+use borrow.Author.Rules.{rules}
+use Rattle.lms.proofs.matches.Goals as goal
+
+pub returns : goal.returns
+returns c =
+    let key = c.args.key.now in
+    same_test c.same.result _ _ c.same.ensures
+    ∙ ap (λ (l : List ℕ). same l (take (length key - 24) (drop 24 key))) c.bytes-bytes.ensures
+    ∙ ap (same (bytes_of c.args.root)) (part_end key 24)
