@@ -2,7 +2,7 @@
 
 use std::{env, path::PathBuf, process};
 
-const HINT: &str = "build libhirelog.a by `rt staticlib hirelog`, and set HIRELOG_LIB_DIR to its \
+const HINT: &str = "build libhirelog.a by `tools/build library`, and set HIRELOG_LIB_DIR to its \
     folder's whole path, target/staticlib of the repository (a relative path counts from rust/)";
 
 fn main() {

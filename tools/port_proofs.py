@@ -194,11 +194,17 @@ class Function:
             names = [a for b, a in self.typed.get(at, {}).items() if plain(b) == plain(first)]
             if names:
                 return f"c.type_inv.{names[0]}" + rest[len("given") :]
-        m = re.match(r"new\.(\d+)(?=\.|$)", rest)
+        m = re.match(r"auto((?:\.1)*\.0)(?=\.|$)", rest)
         if m:
             names = lent(self.place[at][3])
-            if int(m.group(1)) < len(names):
-                rest = f"new.{names[int(m.group(1))]}" + rest[m.end() :]
+            n = 0 if len(names) == 1 else m.group(1).count(".1")
+            if n < len(names):
+                return f"c.{new}.auto.{names[n]}" + rest[m.end() :]
+        m = re.match(r"(new|auto)\.(\d+)(?=\.|$)", rest)
+        if m:
+            names = lent(self.place[at][3])
+            if int(m.group(2)) < len(names):
+                rest = f"{m.group(1)}.{names[int(m.group(2))]}" + rest[m.end() :]
             else:
                 self.left.append(f"{where}: .{path} of {self.place[at][3]}")
         arm = self.e["arms"][[x[0] for x in self.e["places"]].index(at)]
@@ -249,8 +255,10 @@ class Function:
         # names of steps: what a call wrote, by its parameter
         for m in list(re.finditer(rf"let ({NAME}) = c\.([^\s.]+) in", text)):
             callee = [x[3] for x in self.e["places"] if x[2][1] == m.group(2) and x[3]]
+            if callee and len(lent(callee[0])) == 1:
+                text = re.sub(rf"(?<![^\s(,{{\[]){re.escape(m.group(1))}\.auto(?:\.1)*\.0(?=[^\d])", rf"{m.group(1)}.auto.{lent(callee[0])[0]}", text)
             for n, w in enumerate(lent(callee[0]) if callee else []):
-                text = re.sub(rf"(?<![^\s(,{{\[]){re.escape(m.group(1))}\.new\.{n}(?=[^\d])", f"{m.group(1)}.new.{w}", text)
+                text = re.sub(rf"(?<![^\s(,{{\[]){re.escape(m.group(1))}\.(new|auto)\.{n}(?=[^\d])", rf"{m.group(1)}.\1.{w}", text)
         return text
 
 
@@ -383,7 +391,7 @@ def convert(crate, name, entry, keep, dropped):
                 body = c[m.end() :]
                 if params and params[0] != "c":
                     fn.left.append(f"{new}: parameters {params}")
-                out.append((params, named(fn, fn.body(body, at, where), new)))
+                out.append((params, named(fn, by_clause(fn.body(body, at, where), entry), new)))
             text = "\n".join(f"{new} {' '.join(pp)} ={b}" if pp else f"{new} c = ({b.strip()}) c" for pp, b in out)
             trivial = len(out) == 1 and TRIVIAL.match(out[0][1].strip()) and not p[2]
             item = "\n".join(p[0] + [f"pub {new} : goal.{new}"] + p[2] + [text])
@@ -393,7 +401,7 @@ def convert(crate, name, entry, keep, dropped):
                 item, trivial = f"pub {new} : goal.{new}\n{new} c = {a} c", False
                 fn.left.append(f"{new}: {a}")
             else:
-                body = named(fn, fn.body(m.group(2), at, where), new)
+                body = named(fn, by_clause(fn.body(m.group(2), at, where), entry), new)
                 trivial = bool(TRIVIAL.match(body.strip()))
                 item = f"pub {new} : goal.{new}\n{new} c = {body}"
         if new in done:
@@ -435,6 +443,46 @@ def convert(crate, name, entry, keep, dropped):
     return fn.left
 
 
+def by_clause(text, entry):
+    """What an answer cites of a callee's clauses by their order, by their names."""
+    for place in entry["places"]:
+        step, callee = place[2][1], place[3]
+        if not callee:
+            continue
+        crate, _, name = callee.partition("::")
+        for kind in ("ensures", "requires"):
+            names = clauses(crate, name, kind)
+            if not names:
+                continue
+            heads = [rf"c\.{re.escape(step)}\.{kind}"]
+            for x in re.findall(rf"let ({NAME}) = c\.{re.escape(step)} in(?=\s)", text):
+                heads.append(rf"{re.escape(x)}\.{kind}")
+            for x in re.findall(rf"let ({NAME}) = c\.{re.escape(step)}\.{kind} in(?=\s)", text):
+                heads.append(re.escape(x))
+            for h in heads:
+                text = re.sub(
+                    rf"(?<![^\s(,{{\[])({h})\.(\d)(?!\d)",
+                    lambda m: f"{m.group(1)}.{names[int(m.group(2))]}" if int(m.group(2)) < len(names) else m.group(),
+                    text,
+                )
+    return text
+
+
+def again(crate):
+    """Names the clauses in answers that were turned already."""
+    entries = json.loads(read(f"{KEEP}/names-{crate}/names.json"))
+    for p in sorted(glob.glob(f"crates/{crate}/proofs/**/Answers.antt", recursive=True)):
+        name = os.path.relpath(os.path.dirname(p), f"crates/{crate}/proofs")
+        entry = entries.get(f"Rattle-{crate}-proofs.{name.replace('/', '.')}.Lts")
+        if entry is None:
+            continue
+        out = []
+        for part in re.split(r"(?m)^(?=pub )", read(p)):
+            out.append(by_clause(part, entry))
+        if "".join(out) != read(p):
+            write(p, "".join(out))
+
+
 def imports(uses, text):
     """Adds what the conversion itself needs."""
     out = list(uses)
@@ -464,6 +512,8 @@ def restore(crate, goals):
 def main(argv):
     keep = "--keep" in argv
     argv = [a for a in argv if a != "--keep"]
+    if argv and argv[0] == "--again":
+        return [again(c) for c in argv[1:]] and None
     if argv and argv[0] == "--restore":
         return restore(argv[1], argv[2:])
     for crate in argv:

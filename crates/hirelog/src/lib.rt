@@ -1,4 +1,4 @@
-// The exported services, for C callers (include/hirelog.h has the rules).
+// The services. Callers in C have them by the crate hirelog_c (include/hirelog.h has the rules).
 #![tactic(auto)]
 
 ghost use Rattle.std.specs.Prelude.{◌≡◌};
@@ -18,8 +18,7 @@ use written::Written;
 
 // SHA-256 (document 01, "Digest and signature"; FIPS 180-4): 0 and the digest of the message, or 16 for a
 // message of more than 16,777,216 bytes, with the digest as it was.
-#[unsafe(no_mangle)]
-pub extern "C" fn hirelog_sha256(message: &[u8], digest: &mut [u8; 32]) -> u32
+pub fn hirelog_sha256(message: &[u8], digest: &mut [u8; 32]) -> u32
     ensures number { result ≡ digest_number message.now }
     ensures bytes { digest.new ≡ digest_after message.now digest.old }
 {
@@ -30,8 +29,7 @@ pub extern "C" fn hirelog_sha256(message: &[u8], digest: &mut [u8; 32]) -> u32
 // before anything else, for a message of more than 16,777,216 bytes; with 0 also the number of the
 // signature's leaf (document 02, W5), with 15 and 16 leaf 0; and the chain steps of the check (W7), 0 where
 // it does not come to the chains, as with 16.
-#[unsafe(no_mangle)]
-pub extern "C" fn hirelog_lms_check(key: &[u8], message: &[u8], signature: &[u8]) -> LmsAnswer
+pub fn hirelog_lms_check(key: &[u8], message: &[u8], signature: &[u8]) -> LmsAnswer
     ensures number { result.number
         ≡ answer_number (answer key.now message.now signature.now) }
     ensures leaf { result.leaf
@@ -46,8 +44,7 @@ pub extern "C" fn hirelog_lms_check(key: &[u8], message: &[u8], signature: &[u8]
 
 // The audit (document 01): the number, and the report in the buffer's first 53 bytes; with number 1, for a
 // buffer below 53 bytes, nothing is written. Demand 3 stands on the number and on the report's own bytes.
-#[unsafe(no_mangle)]
-pub extern "C" fn hirelog_audit(
+pub fn hirelog_audit(
     roster: &[u8],
     first: &[u8],
     second: &[u8],
@@ -70,8 +67,7 @@ pub extern "C" fn hirelog_audit(
 // The audit of a district (document 02, W1): up to nine submissions end to end in one buffer. The number,
 // and with number 0 the first bytes of the report, four more than there are lengths; a refused run writes
 // nothing. Demand 3 stands on the number and on the report's own bytes, over the whole list.
-#[unsafe(no_mangle)]
-pub extern "C" fn hirelog_district(
+pub fn hirelog_district(
     roster: &[u8],
     buffer: &[u8],
     lengths: &[u32],
@@ -94,8 +90,7 @@ pub extern "C" fn hirelog_district(
 // Assembling a submission (document 02, W3) from a log and a bag of items: the number, and how many of the
 // output's first bytes were written; a refusal writes nothing, and its length is 0. What is written is
 // accepted against the same roster, and has the same log.
-#[unsafe(no_mangle)]
-pub extern "C" fn hirelog_assemble(
+pub fn hirelog_assemble(
     roster: &[u8],
     log: &[u8],
     items: &[u8],

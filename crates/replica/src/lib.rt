@@ -2,4 +2,3 @@
 // and "The report"; document 02, W4 and W5; a replica is document 01's board): definitions, and that a
 // replica which keeps the rules signs no two claims that are charged.
 #![tactic(auto)]
-

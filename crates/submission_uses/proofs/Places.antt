@@ -64,7 +64,7 @@ module _ (as_use : Slot → Use) (S : ℕ) (claim : Claim) where
       ⊎_elim
       (λ (e : eqb (mask % 2) 1 ≡ true).
       rw (div-one, e, here, eq-eqb j j refl, none)
-      (ap (λ z. as_use (slot j claim (take S bytes)) ∷ z) (none-low bits (suc j) (mask / 2) j (drop S bytes) (omega arith))))
+      (ap (λ z. as_use (slot j claim (take S bytes)) ∷ z) (none-low bits (suc j) (mask / 2) (j + 0) (drop S bytes) (omega arith))))
       (λ (e : eqb (mask % 2) 1 ≡ false). rw (div-one, e, here) (none-low bits (suc j) (mask / 2) j bytes (omega arith)))
       (look (eqb (mask % 2) 1))
   used-from (suc bits) j mask (suc i) bytes h =

@@ -13,10 +13,10 @@ const HEAD: &str = "\
 -- written auditor's own rules. Made by `replica_acts` of tests/auditor; \
    the gate makes it anew and compares.
 -- Assumes nothing.
-use mathlib.Core.List.{List, [], _∷_, _++_}
+use mathlib.Core.List.{List, [], ◌∷◌, ◌++◌}
 use mathlib.Core.Option.{some, none}
-use Rattle·replica·specs.specs.Replica.{raise, vote, run, add, stamp, receipt, decline, restart}
-use Rattle·replica·proofs.proofs.Case.{Case, given, state, ballot, of, used, voted, stamped, received}
+use Rattle.replica.specs.Replica.{raise, vote, run, add, stamp, receipt, decline, restart}
+use Rattle.replica.proofs.Case.{Case, given, state, ballot, of, used, voted, stamped, received}
 ";
 
 /// A list for each group, and one of them all.

@@ -1,0 +1,107 @@
+-- One certificate and one term a turn: those that are left give what all of them give.
+use mathlib.Core.Path.{◌≡◌, sym, ap, ◌∙◌}
+use mathlib.Core.List.{List, []}
+use Prim.Native.Nat.{ℕ, ◌-◌, ◌≤◌, ◌<◌}
+use native.Mathlib.Nat.{le_trans}
+use native.Mathlib.Omega.{arith}
+use lib.ListN.{length, drop}
+use lib.Seq.{take-nil}
+use Rattle.refusal.specs.Checks.{every}
+use Rattle.log_chain.specs.Log.{Record, with_terms}
+use Rattle.submission.specs.View.{leads_of, leads}
+use Rattle.log_chain.specs.Records.{records_of}
+use Rattle.submission.specs.Reading.{certificates, certificates_end, view}
+use Rattle.log_terms.specs.Later.{runs_left}
+use Rattle.log_terms.specs.Pointed.{PointersCarried}
+use Rattle.submission.specs.Validate.{leading}
+use Rattle.submission.proofs.Certificates.{certificate-head, first-inside, rest-inside}
+use Rattle.submission_parts.proofs.Shapes.{known-leaders, known-stamps, known-leads, stamp-count, run-count, few-records, records-room, upto-room, leaders-room}
+use Rattle.submission_leaders.proofs.LeadWalk.{led, lead-fails, lead-next, walked_through}
+use Rattle.log_terms.proofs.Walks.{runs-all, runs-some, runs-over}
+use mathlib.Core.Bool.{not}
+use Rattle.submission_leaders.proofs.leaders_match_log.Goals as goal
+
+pub commit_index-commit-requires : goal.commit_index-commit-requires
+commit_index-commit-requires c = let p = c.requires.0 in (p.bounds, p.layout)
+
+pub loop-left-init : goal.loop-left-init
+unfolding records_of view
+loop-left-init c =
+    let a = c.args in
+    let p = c.requires in
+    let all = runs-all a.shape.width a.shape.records a.s.now in
+    let none : a.shape.leaders - a.shape.leaders ≡ 0 = omega arith in
+    let begun = c.walk_start-walked.ensures in
+    rw begun.end (
+      omega arith,
+      omega arith,
+      sym (run-count _ _ p.0 p.1) ∙ ap length (sym all),
+      leaders-room _ _ p.0,
+      rw (take-nil {A = Record} c.commit_index-commit.result) (begun.pointed (with_terms a.shape.width [])),
+      (λ name. rw (none, all, ← known-leads _ _ p.0, ← known-leaders _ _ p.0, ← known-stamps _ _ p.0)),
+    )
+
+pub next_run-next-requires : goal.next_run-next-requires
+next_run-next-requires c =
+    let l = c.loop-left in
+    let a = c.args in
+    let more : l.walked.end < a.shape.records = runs-some a.shape.width a.shape.records l.walked.end a.s.now (omega (arith, c.loop-left-test.true, l.invariant.2)) in
+    (c.requires.0.bounds.width, more, omega (arith, few-records _ _ c.requires.0), records-room _ _ c.requires.0, l.invariant.4)
+
+pub leading-requires : goal.leading-requires
+leading-requires c =
+    let l = c.loop-left in
+    let a = c.args in
+    let s = a.s.now in
+    let inside = first-inside a.shape.width a.shape.size s l.left l.place (omega (arith, c.loop-left-test.true)) l.invariant.3 in
+    (c.requires.0.bounds.width, le_trans (certificate-head a.shape.width a.shape.size s l.place) inside, upto-room _ _ c.requires.0 _ l.invariant.1, upto-room _ _ c.requires.0 _ c.next_run-next.ensures.ends.1, l.invariant.4.last)
+
+pub returns-then-not-leading : goal.returns-then-not-leading
+returns-then-not-leading c =
+    let l = c.loop-left in
+    let a = c.args in record { holds = (λ name.
+          lead-fails a.shape.width a.shape.size a.s.now (leading (with_terms a.shape.width name) a.n) l.left l.place (runs_left a.shape.width a.shape.records l.walked.end a.s.now) a.shape.leaders _
+          (l.invariant.5 name) (omega (arith, c.loop-left-test.true)) l.invariant.0 (stamp-count _ _ c.requires.0) _ _ c.next_run-next.ensures.runs
+          (c.leading.ensures name) (ap not c.if-not-leading.true)); pointers = c.pointers_zero.ensures (with_terms a.shape.width []) }
+
+pub certificate_end-place-requires : goal.certificate_end-place-requires
+certificate_end-place-requires c =
+    let l = c.loop-left in
+    let a = c.args in
+    (c.requires.0.bounds.width, first-inside a.shape.width a.shape.size a.s.now l.left l.place (omega (arith, c.loop-left-test.true)) l.invariant.3)
+
+pub overflow_sub-left : goal.overflow_sub-left
+overflow_sub-left c = omega (arith, c.loop-left-test.true)
+
+pub loop-left-smaller : goal.loop-left-smaller
+loop-left-smaller c = omega (arith, c.loop-left-test.true)
+
+pub loop-left-preserved : goal.loop-left-preserved
+loop-left-preserved c =
+    let l = c.loop-left in
+    let a = c.args in
+    let s = a.s.now in
+    let more : 0 < l.left = omega (arith, c.loop-left-test.true) in
+    let walked = c.next_run-next.ensures in
+    let place = c.certificate_end-place.ensures in (
+      omega arith,
+      walked.ends.1,
+      omega (arith, l.invariant.2, ap length walked.runs),
+      rw place (rest-inside a.shape.width a.shape.size s l.left l.place more l.invariant.3),
+      walked.pointed,
+      (λ name.
+          rw place
+          (lead-next a.shape.width a.shape.size s (leading (with_terms a.shape.width name) a.n) l.left l.place (runs_left a.shape.width a.shape.records l.walked.end s) a.shape.leaders _
+          (l.invariant.5 name) more l.invariant.0 (stamp-count _ _ c.requires.0) _ _ walked.runs (c.leading.ensures name) (ap not c.if-not-leading.false))),
+    )
+
+pub returns : goal.returns
+returns c =
+    let l = c.loop-left in
+    let a = c.args in
+    let s = a.s.now in
+    let w = a.shape.width in
+    let over : a.shape.records ≤ l.walked.end = runs-over w a.shape.records l.walked.end s (omega (arith, c.loop-left-test.false, l.invariant.2)) in
+    let end : l.walked.end ≡ a.shape.records = omega (arith, over, l.invariant.1) in record { holds = (λ name.
+          led w a.shape.size s (leading (with_terms w name) a.n) l.left l.place (runs_left w a.shape.records l.walked.end s) a.shape.leaders _
+          (l.invariant.5 name) (omega (arith, c.loop-left-test.false))); pointers = walked_through a.shape s _ l.walked.end c.requires.0 c.commit_index-commit.ensures end l.invariant.4 }

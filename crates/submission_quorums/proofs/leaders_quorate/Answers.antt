@@ -1,0 +1,60 @@
+-- One certificate a turn: those that are left give what all of them give, and end inside.
+use mathlib.Core.Path.{◌≡◌, refl, sym, ◌∙◌}
+use Prim.Native.Nat.{◌≤◌}
+use native.Mathlib.Omega.{arith}
+use borrow.Author.Rules.{rules}
+use Rattle.refusal.specs.Checks.{every}
+use Rattle.submission.specs.Reading.{certificates_end}
+use Rattle.submission_quorums.specs.Signers.{leader_masks}
+use Rattle.submission.specs.Validate.{quorate}
+use Rattle.submission.proofs.Certificates.{certificates-from}
+use Rattle.submission_quorums.proofs.Quorums.{never-refused, too_few, enough, all-enough}
+use mathlib.Core.Path.{ap}
+use mathlib.Core.Bool.{not}
+use Rattle.submission_quorums.proofs.leaders_quorate.Goals as goal
+
+pub loop-left-init : goal.loop-left-init
+loop-left-init c = (c.requires.6, refl)
+
+pub read-requires : goal.read-requires
+read-requires c =
+    let a = c.args in
+    let l = c.loop-left in
+    let p = c.requires in
+    (omega (arith, certificates-from a.width a.size a.s.now l.left l.at), p.2, p.3, p.4, p.5)
+
+pub returns-in_default : goal.returns-in_default
+returns-in_default c =
+    let a = c.args in
+    let l = c.loop-left in
+    never-refused a.width a.size a.s.now a.n l.left l.at a.end l.invariant.1 (omega arith) l.invariant.0
+    (sym c.read.ensures.0 ∙ c.in_default.is)
+
+pub mask_quorate-requires : goal.mask_quorate-requires
+mask_quorate-requires c =
+    let p = c.requires in
+    (p.0, p.1)
+
+pub returns-then-not-mask_quorate : goal.returns-then-not-mask_quorate
+returns-then-not-mask_quorate c =
+    let a = c.args in
+    let l = c.loop-left in
+    too_few a.width a.size a.s.now a.n l.left l.at a.end l.invariant.1 (omega arith) l.invariant.0
+    (sym c.read.ensures.0 ∙ c.in-Read.is)
+    c.mask_quorate.ensures
+    (ap not c.if-not-mask_quorate.true)
+
+pub loop-left-preserved : goal.loop-left-preserved
+loop-left-preserved c =
+    let a = c.args in
+    let l = c.loop-left in
+    enough a.width a.size a.s.now a.n l.left l.at a.end l.invariant.1 (omega arith) l.invariant.0
+    (sym c.read.ensures.0 ∙ c.in-Read.is)
+    c.mask_quorate.ensures
+    (ap not c.if-not-mask_quorate.false)
+
+pub returns : goal.returns
+returns c =
+    let a = c.args in
+    let l = c.loop-left in
+    all-enough a.width a.size a.s.now a.n l.left l.at a.end l.invariant.1 (omega arith)

@@ -1,0 +1,154 @@
+-- One leader certificate a turn, with the next one's last index and pointer, which are its term's last record; the last term's are the log's.
+-- What a turn and the last stamp ask for is one list, said in both needs: a need cannot be handed what another has named.
+use mathlib.Core.Path.{sym, ap, ◌∙◌}
+use mathlib.Core.List.{[], map}
+use Prim.Native.Nat.{◌+◌, ◌*◌, ◌≤◌}
+use native.Mathlib.Omega.{arith}
+use lib.ListN.{length}
+use Rattle.refusal.specs.Checks.{every}
+use Rattle.roster.specs.Roster.{cluster}
+use Rattle.log_chain.specs.Log.{with_terms, pointer}
+use Rattle.log_chain.specs.Runs.{runs}
+use Rattle.submission.specs.View.{leads, stamp_of}
+use Rattle.log_chain.specs.Records.{records_of}
+use Rattle.submission.specs.Reading.{ballot_size, certificates_end, view}
+use Rattle.submission.specs.Validate.{genuine}
+use Rattle.log_chain.proofs.Records.{length-records}
+use Rattle.submission.proofs.Certificates.{rest-inside, first-inside}
+use Rattle.submission_parts.proofs.Shapes.{known-leads, run-count, few-records, leaders-room, stamps-room as stamps-inside}
+use Rattle.submission_signatures.proofs.Turns.{fields-room, next-fields, stamps-room}
+use Rattle.log_chain.proofs.Linked.{linked_runs}
+use Rattle.submission.proofs.Linked.{leads_from}
+use Rattle.submission_signatures.proofs.StampsLeft.{StampsLeft, stamps-done, this, not_last, is_last, stamp-fail, stamp-next, stamp-last}
+use mathlib.Core.Bool.{not}
+use Rattle.submission_signatures.proofs.stamps.stamps_good.Goals as goal
+
+pub loop-left-init : goal.loop-left-init
+unfolding leads_from
+loop-left-init c =
+    let a = c.args in
+    let checked = c.requires.0 in
+    let known = checked.counted.laid.known in
+    let log = records_of a.shape.width a.shape.records a.s.now in
+    let all = known-leads _ _ known in (
+      leaders-room _ _ known,
+      stamps-inside _ _ known,
+      record {
+        before = [];
+        runs = runs log;
+        terms = record { linked = linked_runs log; count = run-count _ _ known checked.counted.count; leaders = rw all checked.leaders };
+        answer = rw all;
+      },
+    )
+
+pub certificate_end-next-requires : goal.certificate_end-next-requires
+certificate_end-next-requires c =
+    let a = c.args in
+    let l = c.loop-left in
+    (c.requires.0.counted.laid.known.bounds.width, first-inside a.shape.width a.shape.size a.s.now l.left l.at (omega arith) l.invariant.0)
+
+pub overflow_add-last_index : goal.overflow_add-last_index
+unfolding ballot_size
+overflow_add-last_index c =
+    let l = c.loop-left in rw c.certificate_end-next.ensures (omega (arith, next-fields _ _ _ l.left l.at (omega arith) l.invariant.0))
+
+pub overflow_add-last_index-in-loop-left : goal.overflow_add-last_index-in-loop-left
+unfolding ballot_size
+overflow_add-last_index-in-loop-left c =
+    let l = c.loop-left in rw c.certificate_end-next.ensures (omega (arith, next-fields _ _ _ l.left l.at (omega arith) l.invariant.0))
+
+pub overflow_add-last_index-in-loop-left-2 : goal.overflow_add-last_index-in-loop-left-2
+unfolding ballot_size
+overflow_add-last_index-in-loop-left-2 c =
+    let l = c.loop-left in rw c.certificate_end-next.ensures (omega (arith, next-fields _ _ _ l.left l.at (omega arith) l.invariant.0))
+
+pub u32_at-index-requires : goal.u32_at-index-requires
+unfolding ballot_size
+u32_at-index-requires c =
+    let l = c.loop-left in rw c.certificate_end-next.ensures (omega (arith, next-fields _ _ _ l.left l.at (omega arith) l.invariant.0))
+
+pub overflow_add-last_index-in-loop-left-3 : goal.overflow_add-last_index-in-loop-left-3
+unfolding ballot_size
+overflow_add-last_index-in-loop-left-3 c =
+    let l = c.loop-left in rw c.certificate_end-next.ensures (omega (arith, next-fields _ _ _ l.left l.at (omega arith) l.invariant.0))
+
+pub value_at-last-requires : goal.value_at-last-requires
+unfolding ballot_size
+value_at-last-requires c =
+    let l = c.loop-left in rw c.certificate_end-next.ensures (omega (arith, next-fields _ _ _ l.left l.at (omega arith) l.invariant.0))
+
+pub stamp_good-requires : goal.stamp_good-requires
+stamp_good-requires c =
+    let a = c.args in
+    let l = c.loop-left in
+    let laid = c.requires.0.counted.laid in
+    let t = this a.roster.now a.s.now a.shape.width a.shape.size _ l.left l.at l.stamp l.invariant.2 (omega arith) in (
+      laid.fine,
+      laid.known.bounds.width,
+      fields-room a.shape.width a.shape.size a.s.now l.left l.at (omega arith) l.invariant.0,
+      t.facts.low,
+      t.facts.high,
+      omega (arith, stamps-room a.shape.size a.s.now l.left l.stamp (omega arith) l.invariant.1),
+    )
+
+pub returns-then-not-stamp_good : goal.returns-then-not-stamp_good
+returns-then-not-stamp_good c =
+    let a = c.args in
+    let l = c.loop-left in
+    let place = not_last a.roster.now a.s.now a.shape.width a.shape.size _ l.left l.at l.stamp l.invariant.2 (omega arith) (omega arith) _ _ _
+    c.certificate_end-next.ensures c.u32_at-index.ensures.0 c.value_at-last.ensures in
+    stamp-fail a.roster.now a.s.now a.shape.width a.shape.size _ l.left l.at l.stamp l.invariant.2 (omega arith) _ _ place.0 place.1
+    c.stamp_good.ensures (ap not c.if-not-stamp_good.true)
+
+pub overflow_add-stamp : goal.overflow_add-stamp
+overflow_add-stamp c =
+    let a = c.args in
+    let l = c.loop-left in
+    omega (arith, c.requires.0.counted.laid.known.bounds.short, stamps-room a.shape.size a.s.now l.left l.stamp (omega arith) l.invariant.1)
+
+pub loop-left-preserved : goal.loop-left-preserved
+loop-left-preserved c =
+    let a = c.args in
+    let l = c.loop-left in
+    let next = c.certificate_end-next.ensures in
+    let place = not_last a.roster.now a.s.now a.shape.width a.shape.size _ l.left l.at l.stamp l.invariant.2 (omega arith) (omega arith) _ _ _
+    next c.u32_at-index.ensures.0 c.value_at-last.ensures in
+    rw next (
+      rest-inside a.shape.width a.shape.size a.s.now l.left l.at (omega arith) l.invariant.0,
+      stamps-room a.shape.size a.s.now l.left l.stamp (omega arith) l.invariant.1,
+      stamp-next a.roster.now a.s.now a.shape.width a.shape.size _ l.left l.at l.stamp l.invariant.2 (omega arith) _ _ place.0 place.1
+          c.stamp_good.ensures (ap not c.if-not-stamp_good.false),
+    )
+
+pub returns-then-left-eq0 : goal.returns-then-left-eq0
+returns-then-left-eq0 c =
+    let a = c.args in
+    let l = c.loop-left in
+    stamps-done a.roster.now a.s.now a.shape.width a.shape.size _ l.left l.at l.stamp l.invariant.2 (omega arith)
+
+pub overflow_cast-shape : goal.overflow_cast-shape
+overflow_cast-shape c =
+    let p = c.requires.0 in omega (arith, few-records _ _ p.counted.laid.known)
+
+pub stamp_good-requires-2 : goal.stamp_good-requires-2
+stamp_good-requires-2 c =
+    let a = c.args in
+    let l = c.loop-left in
+    let laid = c.requires.0.counted.laid in
+    let t = this a.roster.now a.s.now a.shape.width a.shape.size _ l.left l.at l.stamp l.invariant.2 (omega arith) in (
+      laid.fine,
+      laid.known.bounds.width,
+      fields-room a.shape.width a.shape.size a.s.now l.left l.at (omega arith) l.invariant.0,
+      t.facts.low,
+      t.facts.high,
+      omega (arith, stamps-room a.shape.size a.s.now l.left l.stamp (omega arith) l.invariant.1),
+    )
+
+pub returns : goal.returns
+returns c =
+    let a = c.args in
+    let l = c.loop-left in
+    let end = is_last a.roster.now a.s.now a.shape.width a.shape.size _ l.left l.at l.stamp l.invariant.2 (omega arith) (omega arith) in
+    stamp-last a.roster.now a.s.now a.shape.width a.shape.size _ l.left l.at l.stamp l.invariant.2 (omega arith) _ _
+    (ap length end ∙ length-records a.shape.width a.shape.records a.s.now) (c.requires.1 ∙ ap (pointer (with_terms a.shape.width [])) (sym end))
+    c.stamp_good-2.ensures (omega arith)

@@ -1,0 +1,35 @@
+-- One leader certificate a turn, with the next one's last index and pointer, which are its term's last record; the last term's are the log's.
+use mathlib.Core.Path.{◌≡◌, refl, sym, ap, ◌∙◌}
+use mathlib.Core.List.{[], ◌++◌, map}
+use Prim.Native.Nat.{◌+◌, ◌-◌, ◌*◌, ◌≤◌}
+use native.Mathlib.Omega.{arith}
+use lib.ListN.{length}
+use Rattle.lm_format.specs.Leaf.{leaf_size}
+use Rattle.log_chain.specs.Log.{with_terms, pointer}
+use Rattle.log_chain.specs.Records.{records_of}
+use Rattle.log_chain.specs.Runs.{runs}
+use Rattle.log_chain.proofs.Linked.{linked_runs}
+use Rattle.log_chain.proofs.Records.{length-records}
+use Rattle.submission.specs.View.{leads, stamp_of}
+use Rattle.submission.specs.Reading.{ballot_size, certificates_end, view}
+use Rattle.submission.specs.Validate.{uses}
+use Rattle.submission.proofs.Certificates.{rest-inside, first-inside}
+use Rattle.submission.proofs.Linked.{leads_from}
+use Rattle.submission_parts.proofs.Shapes.{known-leads, run-count, few-records, leaders-room, stamps-room as stamps-inside}
+use Rattle.submission_signatures.proofs.Turns.{fields-room, next-fields, stamps-room}
+use Rattle.submission_signatures.proofs.StampsLeft.{not_last, is_last}
+use Rattle.submission_leaves.specs.Entries.{padded_use, entry_uses}
+use Rattle.submission_uses.specs.Signed.{slot_use_in}
+use Rattle.submission_uses.proofs.StampUses.{StampsToPut, none-to-put, checked, stamp-put}
+use Rattle.submission_uses.proofs.stamps.add_stamps.Given as goal
+
+abbrev pub invariant-loop-left : goal.invariant-loop-left
+invariant-loop-left l =
+    let w = l.shape.width in
+    let S = l.shape.size in
+    (certificates_end w S l.s l.left l.at ≤ length l.s) × (l.stamp + l.left * S ≤ length l.s) × (l.count + l.left ≤ l.n + l.shape.leaders) × (length l.buffer ≡ length l.initial.buffer)
+    × ((wide : leaf_size ≤ S) → StampsToPut l.roster l.s w S l.k wide (records_of w l.shape.records l.s)
+    (entry_uses l.n l.initial.buffer ++ map padded_use (uses (slot_use_in w l.roster) l.k (map (stamp_of S) (leads (view w S l.s))))) (entry_uses l.count l.buffer) l.left l.at l.stamp)
+
+abbrev pub decreases-loop-left : goal.decreases-loop-left
+decreases-loop-left l = l.left
