@@ -51,5 +51,8 @@ returns-then-not-all_signatures_good c =
 
 pub returns : goal.returns
 returns c =
-    let led = asked_leading _ _ _ _ c.replicas-n.ensures.0 c.leaders_match_log-leaders.ensures.holds in record { number = leaders_passed _ _ _ _ (met led c.if-not-leaders.false) (met c.index_within_log.ensures (ap not c.if-not-index_within_log.false))
-          (met c.all_signatures_good.ensures (ap not c.if-not-all_signatures_good.false)); pointers = pointers-met c.leaders_match_log-leaders.result.holds _ _ _ (not-false _ c.if-not-leaders.false) c.leaders_match_log-leaders.ensures.pointers }
+    let led = asked_leading _ _ _ _ c.replicas-n.ensures.0 c.leaders_match_log-leaders.ensures.holds in record {
+      number = leaders_passed _ _ _ _ (met led c.if-not-leaders.false) (met c.index_within_log.ensures (ap not c.if-not-index_within_log.false))
+          (met c.all_signatures_good.ensures (ap not c.if-not-all_signatures_good.false));
+      pointers = pointers-met c.leaders_match_log-leaders.result.holds _ _ _ (not-false _ c.if-not-leaders.false) c.leaders_match_log-leaders.ensures.pointers;
+    }
