@@ -1,7 +1,8 @@
 // A file, read whole into a buffer (document 01, "The report": the files of the program `audit`).
 #![tactic(auto)]
 
-ghost use Rattle.std.specs.Prelude.{◌≡◌, ◌≤◌, length, take};
+ghost use Rattle.std.specs.Prelude.{◌≡◌, ◌<◌, ◌≤◌, length, take, IfSome, IsTrue};
+ghost use Rattle.std.specs.Io.KnownBytes.{Consumes, IsAtEnd};
 
 use std::fs::File;
 use std::io::Read;
@@ -17,9 +18,10 @@ fn open<R: Files>(files: &R, name: &[u8]) -> io::Result<R::File> {
 }
 
 // Reads until `buffer` is full, the file ends or a read fails, and gives how many bytes it put at the start of
-// `buffer`.
+// `buffer`: those that the file had next.
 fn read_full<F: Read>(file: &mut F, buffer: &mut [u8]) -> usize
-    ensures { result ≤ length buffer.new }
+    ensures within { result ≤ length buffer.new }
+    ensures bytes { Consumes (F.remaining file.old) (F.remaining file.new) (take result buffer.new) }
 {
     let mut done: usize = 0;
     while done < buffer.len() {
@@ -32,9 +34,21 @@ fn read_full<F: Read>(file: &mut F, buffer: &mut [u8]) -> usize
 }
 
 // Whether nothing is left to read, and the last read did not fail.
-fn at_end<F: Read>(file: &mut F) -> bool {
+fn at_end<F: Read>(file: &mut F) -> bool
+    ensures { IsTrue result → IsAtEnd (F.remaining file.old) }
+{
     let mut more = [0u8; 1];
     matches!(file.read(&mut more), Ok(0))
+}
+
+// Puts what a file has left at the start of `buffer`, and gives its length: 0 where it cannot be read, or is
+// larger than `buffer`.
+fn read_whole<F: Read>(file: &mut F, buffer: &mut [u8]) -> usize
+    ensures within { result ≤ length buffer.new }
+    ensures whole { 0 < result → IfSome (F.remaining file.old) (λ bytes. take result buffer.new ≡ bytes) }
+{
+    let n = read_full(file, buffer);
+    if at_end(file) { n } else { 0 }
 }
 
 // Puts a file at the start of `buffer`, and gives its length: 0 for a file that is missing, that cannot be
@@ -47,6 +61,5 @@ pub fn load<R: Files>(files: &R, name: &[u8], buffer: &mut [u8]) -> usize
     let Ok(mut file) = open(files, name) else {
         return 0;
     };
-    let n = read_full(&mut file, buffer);
-    if at_end(&mut file) { n } else { 0 }
+    read_whole(&mut file, buffer)
 }
