@@ -3,7 +3,6 @@ use mathlib.Core.Path.{ap, ◌∙◌}
 use mathlib.Core.Bool.{Bool}
 use Rattle.replica.specs.Charges.{charge}
 use Rattle.forensics.specs.Findings.{lowest}
-use borrow.Author.Rules.{rules}
 use Rattle.forensics_charges.proofs.after_receipt.Goals as goal
 
 pub returns : goal.returns

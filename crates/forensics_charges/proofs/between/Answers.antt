@@ -5,7 +5,6 @@ use Rattle.replica.specs.Charges.{charge}
 use Rattle.forensics.specs.Findings.{lowest}
 use Rattle.forensics_charges.specs.Charges.{between}
 use Rattle.forensics_charges.proofs.Rows.{joined}
-use borrow.Author.Rules.{rules}
 use Rattle.forensics_charges.proofs.between.Goals as goal
 
 pub returns : goal.returns

@@ -1,6 +1,5 @@
 -- A broken rule is the one charge; no rule broken is none.
 use Rattle.forensics_charges.proofs.Rows.{charged-one, charged-none}
-use borrow.Author.Rules.{rules}
 use Rattle.forensics_charges.proofs.charged.Goals as goal
 
 pub returns-then-broken : goal.returns-then-broken

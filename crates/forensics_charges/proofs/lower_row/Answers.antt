@@ -1,7 +1,6 @@
 -- A row that names nobody leaves it to the other; of two that do, the order of ranks and terms decides.
 use mathlib.Core.Path.{sym, ◌∙◌}
 use Rattle.forensics_charges.proofs.Rows.{first-none, second_none, ranks, second-lower, first-lower}
-use borrow.Author.Rules.{rules}
 use Rattle.forensics_charges.proofs.lower_row.Goals as goal
 
 pub returns-then-x-eq0 : goal.returns-then-x-eq0

@@ -1,7 +1,6 @@
 -- Rule 2 is the first; any other is a place behind its number.
 use mathlib.Core.Path.{sym, ap, ◌∙◌}
 use native.Mathlib.Omega.{arith}
-use borrow.Author.Rules.{rules}
 use Rattle.forensics.specs.Findings.{rank}
 use Rattle.forensics.proofs.Order.{rank_two, rank-other}
 use Rattle.forensics_charges.proofs.rank.Goals as goal

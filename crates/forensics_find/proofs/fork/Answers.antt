@@ -1,6 +1,5 @@
 -- An index that is not above either commit index.
 use Rattle.forensics_find.proofs.Forks.{beyond-first, beyond-second, within_both}
-use borrow.Author.Rules.{rules}
 use Rattle.forensics_find.proofs.fork.Goals as goal
 
 pub returns-then-first-difference : goal.returns-then-first-difference

@@ -2,7 +2,6 @@
 use native.Mathlib.Omega.{arith}
 use Rattle.submission_parts.proofs.Inside.{records-inside}
 use Rattle.forensics_find.proofs.Shown.{read-says}
-use borrow.Author.Rules.{rules}
 use Rattle.forensics_find.proofs.found.Goals as goal
 
 pub record_count-requires : goal.record_count-requires

@@ -1,5 +1,4 @@
 -- The four numbers stand one after the other.
-use borrow.Author.Rules.{rules}
 use Rattle.report_bytes.proofs.Parts.{head_parts}
 use Rattle.report_bytes.proofs.put_head.Goals as goal
 

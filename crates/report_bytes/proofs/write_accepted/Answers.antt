@@ -1,6 +1,5 @@
 -- The answer of accepted submissions has number 0, where 0, and the findings.
 use mathlib.Core.Path.{refl}
-use borrow.Author.Rules.{rules}
 use Rattle.forensics_charges.specs.Charges.{findings_of}
 use Rattle.report_bytes.specs.Answers.{answered, accepted}
 use Rattle.report_bytes.proofs.write_accepted.Goals as goal

@@ -1,6 +1,5 @@
 -- A refusal's fork index is 0, and its nine rows are no charges.
 use mathlib.Core.Path.{refl}
-use borrow.Author.Rules.{rules}
 use Rattle.forensics_charges.specs.Charges.{charge_of}
 use Rattle.report.specs.Report.{refused}
 use Rattle.report_bytes.specs.Answers.{answered}

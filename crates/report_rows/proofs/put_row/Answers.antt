@@ -1,5 +1,4 @@
 -- The rule, then the term.
-use borrow.Author.Rules.{rules}
 use Rattle.report_rows.proofs.Bytes.{put_row}
 use Rattle.report_rows.proofs.put_row.Goals as goal
 

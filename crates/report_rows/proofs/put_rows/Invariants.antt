@@ -1,16 +1,12 @@
 -- A row a turn, each where the one before ends.
 -- A loop that fills a buffer, with the needs of any such loop; the step that is its own is `rows_more`.
-use mathlib.Core.List.{List, map, flat_map}
-use mathlib.Core.Path.{◌≡◌, refl, ap, ◌∙◌}
+use mathlib.Core.List.{map, flat_map}
+use mathlib.Core.Path.{◌≡◌}
 use Prim.Native.Nat.{◌-◌, ◌≤◌}
-use native.Mathlib.Omega.{arith}
-use borrow.Author.Rules.{rules}
 use lib.ListN.{length, take}
-use lib.Seq.{sets, take_all}
-use Rattle.forensics_charges.specs.declared.Row.{Row}
+use lib.Seq.{sets}
 use Rattle.forensics_charges.specs.Charges.{charge_of}
 use Rattle.report.specs.Report.{row_bytes}
-use Rattle.report_rows.proofs.Bytes.{rows_none, rows_more}
 use Rattle.report_rows.proofs.put_rows.Given as goal
 
 abbrev pub invariant-loop-i : goal.invariant-loop-i

@@ -1,6 +1,5 @@
 -- The lines of number and where, of the fork index, and of the replicas.
 use mathlib.Core.Path.{ap}
-use borrow.Author.Rules.{rules}
 use Rattle.text_line.specs.Texts.{fork_line}
 use Rattle.text_report.specs.Lines.{lines}
 use Rattle.text_decimal.proofs.Puts.{put_then, put_same}

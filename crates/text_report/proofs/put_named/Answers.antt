@@ -1,7 +1,4 @@
 -- Nothing for a replica that is not named, otherwise the line of the row's rule and term.
-use borrow.Author.Tests.{not-true, not-false}
-use borrow.Author.Rules.{rules}
-use Rattle.roster.specs.Masks.{signer}
 use Rattle.text_report.proofs.Replicas.{told, unnamed, named}
 use Rattle.text_decimal.proofs.Puts.{put_none, put_same}
 use Rattle.text_report.proofs.put_named.Goals as goal

@@ -1,11 +1,6 @@
 -- A replica a turn: before replica k the lines of the replicas below it are put.
 use mathlib.Core.Path.{◌≡◌, refl, ◌∙◌}
-use Prim.Native.Nat.{◌-◌, ◌*◌, ◌≤◌, ◌<◌}
 use native.Mathlib.Omega.{arith}
-use borrow.Author.Rules.{rules}
-use lib.ListN.{length}
-use Rattle.text_report.specs.Lines.{replica_lines}
-use Rattle.text_decimal.specs.Put.{Put}
 use Rattle.text_decimal.proofs.Puts.{put-length}
 use Rattle.text_report.proofs.Replicas.{no-replicas, next-replica}
 use Rattle.text_report.proofs.put_replicas.Goals as goal

@@ -1,5 +1,4 @@
 -- The lines are put into zeros.
-use borrow.Author.Rules.{rules}
 use lib.Dec.{lit≤}
 use Rattle.text_decimal.proofs.Puts.{put_whole}
 use Rattle.text_report.proofs.text.Goals as goal

@@ -1,11 +1,8 @@
 -- One use a turn.
 use mathlib.Core.Path.{◌∙◌}
-use Prim.Native.Nat.{◌-◌, ◌≤◌}
 use native.Mathlib.Omega.{arith}
 use Rattle.submission_leaves.proofs.Entries.{entry-number}
-use Rattle.forensics_charges.specs.Charges.{charge_of}
-use Rattle.forensics_charges.proofs.LeafRows.{UsesLeft, uses-all, uses-next, uses-done}
-use borrow.Author.Rules.{rules}
+use Rattle.forensics_charges.proofs.LeafRows.{uses-all, uses-next, uses-done}
 use Rattle.forensics_charges.proofs.leaves.leaf_row.Goals as goal
 
 pub loop-i-init : goal.loop-i-init

@@ -1,8 +1,6 @@
 -- The first decides where it fails, and the second after it.
 use mathlib.Core.Path.{sym, ◌∙◌}
-use borrow.Author.Tests.{not-true, not-false}
 use Rattle.refusal.proofs.Laws.{first_fails, first_holds, all_one}
-use borrow.Author.Rules.{rules}
 use Rattle.forensics_charges.proofs.rules.both_signed.Goals as goal
 
 pub returns-then-not-signer : goal.returns-then-not-signer

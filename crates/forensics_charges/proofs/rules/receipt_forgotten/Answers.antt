@@ -1,8 +1,6 @@
 -- Each test that fails ends the rule, and the last decides.
 use mathlib.Core.Path.{sym, ◌∙◌}
-use borrow.Author.Tests.{not-true, not-false}
 use Rattle.forensics_charges.proofs.Broken.{no-receipt, not-higher, by-staler}
-use borrow.Author.Rules.{rules}
 use Rattle.forensics_charges.proofs.rules.receipt_forgotten.Goals as goal
 
 pub returns-then-not-both_signed : goal.returns-then-not-both_signed

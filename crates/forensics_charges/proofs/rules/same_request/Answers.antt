@@ -3,7 +3,6 @@ use mathlib.Core.Path.{◌∙◌}
 use Rattle.words.proofs.Same.{same_test}
 use Rattle.replica.proofs.Request.{other-candidate, other-last-term, other-last-index, by-pointers}
 use Rattle.forensics_charges.specs.Rules.{vote_of}
-use borrow.Author.Rules.{rules}
 use Rattle.forensics_charges.proofs.rules.same_request.Goals as goal
 
 pub returns-then-x-y : goal.returns-then-x-y

@@ -1,7 +1,5 @@
 -- The stamps first, and then the difference.
 use mathlib.Core.Path.{sym, ◌∙◌}
-use borrow.Author.Tests.{not-true, not-false}
-use borrow.Author.Rules.{rules}
 use Rattle.forensics_charges.proofs.Broken.{no-stamps, by_difference}
 use Rattle.forensics_charges.proofs.rules.two_logs.Goals as goal
 

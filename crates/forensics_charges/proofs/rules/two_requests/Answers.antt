@@ -1,9 +1,7 @@
 -- Each test that fails ends the rule, and the last decides.
 use mathlib.Core.Path.{sym, ap, ◌∙◌}
 use mathlib.Core.Bool.{not}
-use borrow.Author.Tests.{not-true, not-false}
 use Rattle.forensics_charges.proofs.Broken.{no-votes, other-term, by-requests}
-use borrow.Author.Rules.{rules}
 use Rattle.forensics_charges.proofs.rules.two_requests.Goals as goal
 
 pub returns-then-not-both_signed : goal.returns-then-not-both_signed

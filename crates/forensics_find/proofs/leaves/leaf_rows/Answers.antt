@@ -3,12 +3,10 @@ use mathlib.Core.Path.{◌≡◌, refl, sym, ap₂, ◌∙◌}
 use mathlib.Core.List.{List}
 use Prim.Native.Nat.{ℕ, ◌+◌, ◌-◌}
 use native.Mathlib.Omega.{arith}
-use borrow.Author.Rules.{rules}
-use lib.ListN.{length, get_or, length-replicate}
+use lib.ListN.{get_or, length-replicate}
 use Rattle.forensics_charges.specs.declared.Row.{Row}
 use Rattle.forensics_charges.specs.Charges.{rows_by, least, charge_of, row_at}
-use Rattle.forensics_find.specs.Leaves.{leaf_row}
-use Rattle.forensics_find.proofs.Replicas.{Filled, fill, filled}
+use Rattle.forensics_find.proofs.Replicas.{fill, filled}
 use Rattle.forensics_find.proofs.leaves.leaf_rows.Goals as goal
 
 -- the row of replica i + 1 stands at place i

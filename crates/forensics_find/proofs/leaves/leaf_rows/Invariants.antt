@@ -1,14 +1,10 @@
 -- One replica a turn: the rows of the replicas before it are done.
-use mathlib.Core.Path.{◌≡◌, refl, sym, ap₂, ◌∙◌}
-use mathlib.Core.List.{List}
-use Prim.Native.Nat.{ℕ, ◌+◌, ◌-◌}
-use native.Mathlib.Omega.{arith}
-use borrow.Author.Rules.{rules}
-use lib.ListN.{length, get_or, length-replicate}
-use Rattle.forensics_charges.specs.declared.Row.{Row}
-use Rattle.forensics_charges.specs.Charges.{rows_by, least, charge_of, row_at}
+use mathlib.Core.Path.{◌≡◌}
+use Prim.Native.Nat.{◌-◌}
+use lib.ListN.{length}
+use Rattle.forensics_charges.specs.Charges.{least, row_at}
 use Rattle.forensics_find.specs.Leaves.{leaf_row}
-use Rattle.forensics_find.proofs.Replicas.{Filled, fill, filled}
+use Rattle.forensics_find.proofs.Replicas.{Filled}
 use Rattle.forensics_find.proofs.leaves.leaf_rows.Given as goal
 
 abbrev pub invariant-loop-i : goal.invariant-loop-i

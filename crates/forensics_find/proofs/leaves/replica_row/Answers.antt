@@ -1,7 +1,6 @@
 -- The second submission's signatures after the first's, in one buffer.
 use mathlib.Core.Path.{ap, ◌∙◌}
 use native.Mathlib.Omega.{arith}
-use borrow.Author.Rules.{rules}
 use Rattle.forensics.specs.Findings.{lowest}
 use Rattle.submission_leaves.specs.Entries.{entry_uses}
 use Rattle.forensics_find.specs.Leaves.{side_uses, leaf_row}

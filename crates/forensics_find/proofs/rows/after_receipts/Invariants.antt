@@ -1,13 +1,11 @@
 -- One term of the other submission a turn.
 -- The loop of `against` with another kind of charge, since a function cannot be handed one. What both argue stands in `proofs/Left.antt`.
-use native.Mathlib.Omega.{arith}
 use Rattle.forensics.specs.Findings.{lowest}
 use Rattle.replica.specs.Charges.{charge}
 use Rattle.forensics_charges.specs.Rules.{forgotten}
 use Rattle.forensics_charges.specs.Charges.{charge_of, after_receipts}
 use Rattle.forensics_find.specs.Tenures.{tenures_of}
-use Rattle.forensics_find.proofs.Left.{RowsLeft, rows_all, first-inside, next-inside, rows_next, rows-done, end-inside}
-use borrow.Author.Rules.{rules}
+use Rattle.forensics_find.proofs.Left.{RowsLeft}
 use Rattle.forensics_find.proofs.rows.after_receipts.Given as goal
 
 abbrev pub invariant-loop-left : goal.invariant-loop-left

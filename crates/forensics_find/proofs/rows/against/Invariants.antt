@@ -1,12 +1,10 @@
 -- One term of the second submission a turn.
 -- The loop of `after_given` with another kind of charge, since a function cannot be handed one. What both argue stands in `proofs/Left.antt`.
 use mathlib.Core.List.{flat_map}
-use native.Mathlib.Omega.{arith}
 use Rattle.forensics.specs.Findings.{lowest}
 use Rattle.forensics_charges.specs.Charges.{charge_of, between}
 use Rattle.forensics_find.specs.Tenures.{tenures_of}
-use Rattle.forensics_find.proofs.Left.{RowsLeft, rows_all, first-inside, next-inside, rows_next, rows-done, end-inside}
-use borrow.Author.Rules.{rules}
+use Rattle.forensics_find.proofs.Left.{RowsLeft}
 use Rattle.forensics_find.proofs.rows.against.Given as goal
 
 abbrev pub invariant-loop-left : goal.invariant-loop-left

@@ -1,11 +1,9 @@
 -- One term of the first submission a turn.
 use mathlib.Core.List.{flat_map}
-use native.Mathlib.Omega.{arith}
 use Rattle.forensics.specs.Findings.{lowest}
 use Rattle.forensics_charges.specs.Charges.{charge_of, between, among_terms}
 use Rattle.forensics_find.specs.Tenures.{tenures_of}
-use Rattle.forensics_find.proofs.Left.{RowsLeft, rows_all, first-inside, next-inside, rows_next, rows-done, end-inside}
-use borrow.Author.Rules.{rules}
+use Rattle.forensics_find.proofs.Left.{RowsLeft}
 use Rattle.forensics_find.proofs.rows.among_terms.Given as goal
 
 abbrev pub invariant-loop-left : goal.invariant-loop-left

@@ -1,11 +1,9 @@
 -- One replica a turn: the rows of the replicas before it are done.
-use mathlib.Core.Path.{refl}
 use Prim.Native.Nat.{◌-◌}
-use native.Mathlib.Omega.{arith}
 use Rattle.forensics.specs.Findings.{lowest}
-use Rattle.forensics_charges.specs.Charges.{ruled_by, rows_by}
+use Rattle.forensics_charges.specs.Charges.{ruled_by}
 use Rattle.forensics_find.specs.Tenures.{tenures_of}
-use Rattle.forensics_find.proofs.Replicas.{Filled, fill, filled}
+use Rattle.forensics_find.proofs.Replicas.{Filled}
 use Rattle.forensics_find.proofs.rows.rows.Given as goal
 
 abbrev pub invariant-loop-i : goal.invariant-loop-i

@@ -5,7 +5,6 @@ use native.Mathlib.Omega.{arith}
 use lib.ListN.{length}
 use Rattle.submission_parts.specs.Reader.{last_pointer_place}
 use Rattle.forensics_find.proofs.Numbers.{ends-log, ends_next}
-use borrow.Author.Rules.{rules}
 use Rattle.forensics_find.proofs.tenures.end_at.Goals as goal
 
 pub returns-then-later-eq0 : goal.returns-then-later-eq0

@@ -1,7 +1,6 @@
 -- The commit certificate is the definition's; the term of its record is that of the log up to it.
 use mathlib.Core.Path.{sym, ◌∙◌}
 use Rattle.forensics_find.proofs.Committed.{no-receipts, record_inside, some-receipts}
-use borrow.Author.Rules.{rules}
 use Rattle.forensics_find.proofs.tenures.receipts_of.Goals as goal
 
 pub returns-in_default : goal.returns-in_default

@@ -4,7 +4,6 @@ use native.Mathlib.Omega.{arith}
 use Rattle.submission.specs.Reading.{ballot_size}
 use Rattle.submission.proofs.Places.{last-pointer-at}
 use Rattle.forensics_find.proofs.Numbers.{tenure_numbers}
-use borrow.Author.Rules.{rules}
 use Rattle.forensics_find.proofs.tenures.tenure_at.Goals as goal
 
 pub value_at-requires : goal.value_at-requires

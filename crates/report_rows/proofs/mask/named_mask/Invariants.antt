@@ -1,13 +1,10 @@
 -- From the last replica down, each turn doubles the mask and adds a bit: the mask is that of the rows from `left` on.
-use mathlib.Core.Path.{◌≡◌, ap, ◌∙◌}
+use mathlib.Core.Path.{◌≡◌}
 use mathlib.Core.List.{map}
-use Prim.Native.Nat.{ℕ, ◌≤◌}
-use native.Mathlib.Omega.{arith}
-use borrow.Author.Rules.{rules}
-use lib.ListN.{drop_of_length-le, length, drop}
+use Prim.Native.Nat.{◌≤◌}
+use lib.ListN.{drop}
 use Rattle.forensics.specs.Findings.{mask_of}
 use Rattle.forensics_charges.specs.Charges.{charge_of}
-use Rattle.report_rows.proofs.Bits.{next_bit, mask_small}
 use Rattle.report_rows.proofs.mask.named_mask.Given as goal
 
 abbrev pub invariant-loop-left : goal.invariant-loop-left
