@@ -147,6 +147,11 @@ def as_record(body, names):
             now += ch
     if now.strip():
         parts.append(now.strip())
+    # the last part of more than two clauses was a tuple of its own
+    if len(parts) < len(names) and len(parts) > 1 and parts[-1].startswith("("):
+        last = as_record(parts[-1], names[len(parts) - 1 :])
+        if last.startswith("record { "):
+            return text[:i] + "record { " + "; ".join(f"{n} = {v}" for n, v in zip(names, parts[:-1])) + "; " + last[len("record { ") :]
     if len(parts) != len(names):
         return body
     return text[:i] + "record { " + "; ".join(f"{n} = {v}" for n, v in zip(names, parts)) + " }"
@@ -460,6 +465,11 @@ def by_clause(text, entry):
             for x in re.findall(rf"let ({NAME}) = c\.{re.escape(step)}\.{kind} in(?=\s)", text):
                 heads.append(re.escape(x))
             for h in heads:
+                # three clauses and more were a tuple in a tuple
+                for n in range(1, len(names)):
+                    if len(names) > 2:
+                        end = r"\.0" if n < len(names) - 1 else ""
+                        text = re.sub(rf"(?<![^\s(,{{\[])({h})(?:\.1){{{n}}}{end}(?![\w.-])", rf"\1.{names[n]}", text)
                 text = re.sub(
                     rf"(?<![^\s(,{{\[])({h})\.(\d)(?!\d)",
                     lambda m: f"{m.group(1)}.{names[int(m.group(2))]}" if int(m.group(2)) < len(names) else m.group(),
