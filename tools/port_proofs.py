@@ -469,7 +469,7 @@ def by_clause(text, entry):
                 for n in range(1, len(names)):
                     if len(names) > 2:
                         end = r"\.0" if n < len(names) - 1 else ""
-                        text = re.sub(rf"(?<![^\s(,{{\[])({h})(?:\.1){{{n}}}{end}(?![\w.-])", rf"\1.{names[n]}", text)
+                        text = re.sub(rf"(?<![^\s(,{{\[])({h})(?:\.1){{{n}}}{end}(?![\w-])", rf"\1.{names[n]}", text)
                 text = re.sub(
                     rf"(?<![^\s(,{{\[])({h})\.(\d)(?!\d)",
                     lambda m: f"{m.group(1)}.{names[int(m.group(2))]}" if int(m.group(2)) < len(names) else m.group(),
