@@ -96,8 +96,8 @@ def plain(step):
     return re.sub(r"[-_·]", "", step).lower()
 
 
-def lent(callee):
-    """The names of a function's parameters that are `&mut`."""
+def lent(callee, every=False):
+    """The names of a function's parameters that are `&mut`; or of every parameter."""
     crate, _, name = (callee or "").partition("::")
     for p in glob.glob(f"crates/{crate}/src/*.rt"):
         m = re.search(rf"\bfn {re.escape(name.rpartition('::')[2])}(?:<[^(]*>)?\(", read(p))
@@ -107,6 +107,8 @@ def lent(callee):
             while depth:
                 depth += {"(": 1, ")": -1}.get(rest[end], 0)
                 end += 1
+            if every:
+                return re.findall(r"(?:^|[,(])\s*(?:mut\s+)?(\w+)\s*:", rest[: end - 1])
             return re.findall(r"(\w+)\s*:\s*&mut\b", rest[: end - 1]) or (["self"] if "&mut self" in rest[:end] else [])
     return []
 
@@ -205,6 +207,11 @@ class Function:
             n = 0 if len(names) == 1 else m.group(1).count(".1")
             if n < len(names):
                 return f"c.{new}.auto.{names[n]}" + rest[m.end() :]
+        m = re.match(r"new((?:\.1)+\.0)(?=\.|$)", rest)
+        if m:
+            names, n = lent(self.place[at][3], True), m.group(1).count(".1")
+            if n < len(names) and names[n] in lent(self.place[at][3]):
+                return f"c.{new}.new.{names[n]}" + rest[m.end() :]
         m = re.match(r"(new|auto)\.(\d+)(?=\.|$)", rest)
         if m:
             names = lent(self.place[at][3])
@@ -262,6 +269,9 @@ class Function:
             callee = [x[3] for x in self.e["places"] if x[2][1] == m.group(2) and x[3]]
             if callee and len(lent(callee[0])) == 1:
                 text = re.sub(rf"(?<![^\s(,{{\[]){re.escape(m.group(1))}\.auto(?:\.1)*\.0(?=[^\d])", rf"{m.group(1)}.auto.{lent(callee[0])[0]}", text)
+            for n, w in enumerate(lent(callee[0], True) if callee else []):
+                if n and w in lent(callee[0]):
+                    text = re.sub(rf"(?<![^\s(,{{\[]){re.escape(m.group(1))}\.new(?:\.1){{{n}}}\.0(?=[^\d])", rf"{m.group(1)}.new.{w}", text)
             for n, w in enumerate(lent(callee[0]) if callee else []):
                 text = re.sub(rf"(?<![^\s(,{{\[]){re.escape(m.group(1))}\.(new|auto)\.{n}(?=[^\d])", rf"{m.group(1)}.\1.{w}", text)
         return text
