@@ -96,8 +96,8 @@ def plain(step):
     return re.sub(r"[-_·]", "", step).lower()
 
 
-def lent(callee):
-    """The names of a function's parameters that are `&mut`."""
+def lent(callee, every=False):
+    """The names of a function's parameters that are `&mut`; or of every parameter."""
     crate, _, name = (callee or "").partition("::")
     for p in glob.glob(f"crates/{crate}/src/*.rt"):
         m = re.search(rf"\bfn {re.escape(name.rpartition('::')[2])}(?:<[^(]*>)?\(", read(p))
@@ -107,6 +107,8 @@ def lent(callee):
             while depth:
                 depth += {"(": 1, ")": -1}.get(rest[end], 0)
                 end += 1
+            if every:
+                return re.findall(r"(?:^|[,(])\s*(?:mut\s+)?(\w+)\s*:", rest[: end - 1])
             return re.findall(r"(\w+)\s*:\s*&mut\b", rest[: end - 1]) or (["self"] if "&mut self" in rest[:end] else [])
     return []
 
@@ -147,6 +149,11 @@ def as_record(body, names):
             now += ch
     if now.strip():
         parts.append(now.strip())
+    # the last part of more than two clauses was a tuple of its own
+    if len(parts) < len(names) and len(parts) > 1 and parts[-1].startswith("("):
+        last = as_record(parts[-1], names[len(parts) - 1 :])
+        if last.startswith("record { "):
+            return text[:i] + "record { " + "; ".join(f"{n} = {v}" for n, v in zip(names, parts[:-1])) + "; " + last[len("record { ") :]
     if len(parts) != len(names):
         return body
     return text[:i] + "record { " + "; ".join(f"{n} = {v}" for n, v in zip(names, parts)) + " }"
@@ -200,6 +207,11 @@ class Function:
             n = 0 if len(names) == 1 else m.group(1).count(".1")
             if n < len(names):
                 return f"c.{new}.auto.{names[n]}" + rest[m.end() :]
+        m = re.match(r"new((?:\.1)+\.0)(?=\.|$)", rest)
+        if m:
+            names, n = lent(self.place[at][3], True), m.group(1).count(".1")
+            if n < len(names) and names[n] in lent(self.place[at][3]):
+                return f"c.{new}.new.{names[n]}" + rest[m.end() :]
         m = re.match(r"(new|auto)\.(\d+)(?=\.|$)", rest)
         if m:
             names = lent(self.place[at][3])
@@ -257,9 +269,26 @@ class Function:
             callee = [x[3] for x in self.e["places"] if x[2][1] == m.group(2) and x[3]]
             if callee and len(lent(callee[0])) == 1:
                 text = re.sub(rf"(?<![^\s(,{{\[]){re.escape(m.group(1))}\.auto(?:\.1)*\.0(?=[^\d])", rf"{m.group(1)}.auto.{lent(callee[0])[0]}", text)
+            for n, w in enumerate(lent(callee[0], True) if callee else []):
+                if n and w in lent(callee[0]):
+                    text = re.sub(rf"(?<![^\s(,{{\[]){re.escape(m.group(1))}\.new(?:\.1){{{n}}}\.0(?=[^\d])", rf"{m.group(1)}.new.{w}", text)
             for n, w in enumerate(lent(callee[0]) if callee else []):
                 text = re.sub(rf"(?<![^\s(,{{\[]){re.escape(m.group(1))}\.(new|auto)\.{n}(?=[^\d])", rf"{m.group(1)}.\1.{w}", text)
         return text
+
+
+def bound(body):
+    """The names that a `(x y : T) →` or a `λ x y.` of a term binds, each with where it holds: (names, from, to)."""
+    out = []
+    for m in re.finditer(r"[({]((?:[^\s(){}:,]+\s+)+):\s|λ ([^.()]+)\.\s", body):
+        depth, end = 0, m.start()
+        while end < len(body):
+            depth += {"(": 1, "[": 1, "{": 1, ")": -1, "]": -1, "}": -1}.get(body[end], 0)
+            if depth < 0:
+                break
+            end += 1
+        out.append(((m.group(1) or m.group(2)).split(), m.start(), end))
+    return out
 
 
 def invariant(fn, decl, params, body, loop, k):
@@ -279,7 +308,14 @@ def invariant(fn, decl, params, body, loop, k):
     if re.search(r"(?<![^\s(λ,])l(?![^\s.):,])", body):
         names = {a: "now" + b[1:] for a, b in names.items()}
     heads = "|".join(re.escape(a) for a in sorted(names, key=len, reverse=True))
-    body = re.sub(rf"(?<![^\s(,{{\[])({heads})(?=[\s).,}}\];]|$)", lambda m: names[m.group(1)], body)
+    hidden = bound(body)
+
+    def to(m):
+        if any(m.group(1) in own and a <= m.start() < b for own, a, b in hidden):
+            return m.group(1)
+        return names[m.group(1)]
+
+    body = re.sub(rf"(?<![^\s(,{{\[])({heads})(?=[\s).,}}\];]|$)", to, body)
     return re.sub(r"\(((?:l|now)(?:\.\w+)+)\)", r"\1", body)
 
 
@@ -460,6 +496,11 @@ def by_clause(text, entry):
             for x in re.findall(rf"let ({NAME}) = c\.{re.escape(step)}\.{kind} in(?=\s)", text):
                 heads.append(re.escape(x))
             for h in heads:
+                # three clauses and more were a tuple in a tuple
+                for n in range(1, len(names)):
+                    if len(names) > 2:
+                        end = r"\.0" if n < len(names) - 1 else ""
+                        text = re.sub(rf"(?<![^\s(,{{\[])({h})(?:\.1){{{n}}}{end}(?![\w-])", rf"\1.{names[n]}", text)
                 text = re.sub(
                     rf"(?<![^\s(,{{\[])({h})\.(\d)(?!\d)",
                     lambda m: f"{m.group(1)}.{names[int(m.group(2))]}" if int(m.group(2)) < len(names) else m.group(),

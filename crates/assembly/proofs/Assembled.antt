@@ -62,33 +62,45 @@ module _ (form : Form) (roster : List ℕ) (S : ℕ) (is : List Item) (long : Lo
   leads-are [] [] done = refl
   leads-are (r ∷ rs) (l ∷ ls) (also f fs) =
       λ i. record { certificate = l.certificate; term = sym f.term i; stamp = l.stamp } ∷ leads-are rs ls fs i
+  leads-are [] (l ∷ ls) neither = elim neither [ ]
+  leads-are (r ∷ rs) [] neither = elim neither [ ]
 
   pub leads-count : (rs : List Run) (ls : List Lead) → AllChosen rs ls
       → (length (certificates_of ls) ≡ length rs) × (length (stamps_of ls) ≡ length (certificates_of ls))
   leads-count [] [] done = (refl, refl)
   leads-count (r ∷ rs) (l ∷ ls) (also f fs) = let k = leads-count rs ls fs in (ap suc k.0, ap suc k.1)
+  leads-count [] (l ∷ ls) neither = elim neither [ ]
+  leads-count (r ∷ rs) [] neither = elim neither [ ]
 
   all-leading : (rs : List Run) (ls : List Lead) → AllChosen rs ls → every (leading form (replicas roster)) ls ≡ true
   unfolding every
   all-leading [] [] done = refl
   all-leading (r ∷ rs) (l ∷ ls) (also f fs) = rw f.leads (all-leading rs ls fs)
+  all-leading [] (l ∷ ls) neither = elim neither [ ]
+  all-leading (r ∷ rs) [] neither = elim neither [ ]
 
   all-quorate : (rs : List Run) (ls : List Lead) → AllChosen rs ls
       → every (quorate (replicas roster)) (map (λ c. c.signers) (certificates_of ls)) ≡ true
   unfolding every
   all-quorate [] [] done = refl
   all-quorate (r ∷ rs) (l ∷ ls) (also f fs) = rw f.quorum-met (all-quorate rs ls fs)
+  all-quorate [] (l ∷ ls) neither = elim neither [ ]
+  all-quorate (r ∷ rs) [] neither = elim neither [ ]
 
   all-votes : (rs : List Run) (ls : List Lead) → AllChosen rs ls → every (genuine form roster) (flat_map (votes_of S) ls) ≡ true
   unfolding flat_map every
   all-votes [] [] done = refl
   all-votes (r ∷ rs) (l ∷ ls) (also f fs) =
       every_append (genuine form roster) (votes_of S l) (flat_map (votes_of S) ls) ∙ rw f.votes (all-votes rs ls fs)
+  all-votes [] (l ∷ ls) neither = elim neither [ ]
+  all-votes (r ∷ rs) [] neither = elim neither [ ]
 
   all-stamps : (rs : List Run) (ls : List Lead) → AllChosen rs ls → every (genuine form roster) (map (stamp_of S) ls) ≡ true
   unfolding every
   all-stamps [] [] done = refl
   all-stamps (r ∷ rs) (l ∷ ls) (also f fs) = rw f.stamp (all-stamps rs ls fs)
+  all-stamps [] (l ∷ ls) neither = elim neither [ ]
+  all-stamps (r ∷ rs) [] neither = elim neither [ ]
 
   -- ---- the commit certificate
 

@@ -75,10 +75,14 @@ module _ (form : Form) (roster : List ℕ) (S : ℕ) (is : List Item) (long : Lo
         signatures = le_of_eq (sym f.votes-size);
       })
       (certificates-fit few rs ls fs (λ q m. fits q (Memᴰ.tail m)))
+  certificates-fit few [] (l ∷ ls) neither fits = elim neither [ ]
+  certificates-fit few (r ∷ rs) [] neither fits = elim neither [ ]
 
   stamps-long : (rs : List Run) (ls : List Lead) → AllChosen form roster S is long rs ls → AllLong S (stamps_of ls)
   stamps-long [] [] done = none-long
   stamps-long (r ∷ rs) (l ∷ ls) (also f fs) = more-long f.stamp-size (stamps-long rs ls fs)
+  stamps-long [] (l ∷ ls) neither = elim neither [ ]
+  stamps-long (r ∷ rs) [] neither = elim neither [ ]
 
   commit-fits : replicas roster ≤ 16 → (log : List Record) → length log < 256 ^ 4
       → (o : Option Commit) → IsCommit form roster S is long log o → CommitFits S o

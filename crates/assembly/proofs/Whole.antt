@@ -78,7 +78,7 @@ module _ (w S : ℕ) where
       let both = cond-true (ltb 0 (first_size w (b ∷ bs))) (whole_after w S (end + S - 1) bs) e in
       let room = whole_room (end + S - 1) bs both.1 in
       let after : S ≤ length (drop end (b ∷ bs)) = rw length-drop (omega (arith, room)) in
-      an_item (length-take-le S (drop end (b ∷ bs)) after) (items-long _ bs both.1)
+      an_item (length-take-le S (drop end (b ∷ bs)) after) (items-long (end + S - 1) bs both.1)
 
   -- its first item has a kind, and lies inside
   pub whole-first : (item_bytes : List ℕ) → 0 < length item_bytes → whole w S item_bytes ≡ true → (0 < first_size w item_bytes) × (item_size w S item_bytes ≤ length item_bytes)

@@ -90,7 +90,7 @@ module _ (S : ℕ) (item_bytes : List ℕ) (n : ℕ) where
   pub row_of : (i : ℕ) (places : List ℕ) (cs : List (Option (List ℕ))) → 0 < i → n ≤ replicas_most → copies_at S item_bytes n places ≡ cs
       → some (record { index = i; signers = signers_of cs; signatures = signatures_of cs })
       ≡ commit_in S item_bytes n (i ∷ 0 ∷ take replicas_most places)
-  unfolding commit_in copies_at get_or
+  unfolding commit_in copies_at
   row_of i places cs p few e =
       let first : take n (take replicas_most places) ≡ take n places = take-take n replicas_most places few in
       let some-index : eqb i 0 ≡ false = ne_eqb i 0 (λ z. omega (arith, z, p)) in
@@ -102,7 +102,7 @@ module _ (S : ℕ) (item_bytes : List ℕ) (n : ℕ) where
 
 pub row-held : (S : ℕ) (item_bytes : List ℕ) (records i : ℕ) (places : List ℕ) → i ≤ records → Placed S item_bytes replicas_most places
     → CommitRowHeld S item_bytes records (i ∷ 0 ∷ take replicas_most places)
-unfolding Placed get_or
+unfolding Placed
 row-held S item_bytes records i places h held =
     record {
       index = h;

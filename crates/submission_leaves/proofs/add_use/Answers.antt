@@ -23,6 +23,9 @@ shape_of-buffer c =
 pub returns : goal.returns
 returns c =
     let a = c.args in
-    let at = entry_size * a.n in record { count = refl; uses = entry_added a.n a.leaf a.size a.buffer.now _ a.statement.now (omega arith) c.requires.0 c.requires.2
+    let at = entry_size * a.n in record {
+      count = refl;
+      uses = entry_added a.n a.leaf a.size a.buffer.now _ a.statement.now (omega arith) c.requires.0 c.requires.2
           (c.put_bytes.ensures
-          ∙ ap (λ (z : List ℕ). sets (sets z (at + 4) (a.size ∷ [])) (at + 4 + 1) a.statement.now) c.put_u32.ensures) }
+          ∙ ap (λ (z : List ℕ). sets (sets z (at + 4) (a.size ∷ [])) (at + 4 + 1) a.statement.now) c.put_u32.ensures);
+    }

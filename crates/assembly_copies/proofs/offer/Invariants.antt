@@ -1,0 +1,15 @@
+-- One statement a turn: those before have what the offer makes of their cells, and the others are as they were.
+use mathlib.Core.Path.{◌≡◌, sym, ◌∙◌}
+use Prim.Native.Nat.{◌+◌, ◌-◌, ◌*◌}
+use native.Mathlib.Omega.{arith}
+use borrow.Author.Rules.{rules}
+use Rattle.roster.proofs.Accepted.{sizes}
+use Rattle.assembly_copies.proofs.Fitting.{own-inside, own-length}
+use Rattle.assembly_copies.proofs.Turns.{Turned, turned_none, turned-all, turn-had, turn-unfit, turn-taken}
+use Rattle.assembly_copies.proofs.offer.Given as goal
+
+abbrev pub invariant-loop-m : goal.invariant-loop-m
+invariant-loop-m l = Turned l.roster l.items l.wanted l.sought l.item l.initial.rows l.rows l.m
+
+abbrev pub decreases-loop-m : goal.decreases-loop-m
+decreases-loop-m l = l.count - l.m

@@ -1,0 +1,18 @@
+-- A number a turn, into the rest of the buffer.
+use mathlib.Core.Path.{sym, ◌∙◌}
+use Prim.Native.Nat.{◌-◌, ◌<◌}
+use native.Mathlib.Omega.{arith}
+use borrow.Author.Rules.{rules}
+use lib.ListN.{get_or}
+use Rattle.words.specs.BigEndian.{be}
+use Rattle.words.proofs.Laws.{length-be}
+use Rattle.words.proofs.Over.{over_first}
+use Rattle.assembly_writer.specs.Parts.{field_count}
+use Rattle.assembly_writer.proofs.Joined.{PartsPut, parts_none, part-inside, part_room, part_put, parts_all}
+use Rattle.assembly_writer.proofs.trailer.put_fields.Given as goal
+
+abbrev pub invariant-loop-i : goal.invariant-loop-i
+invariant-loop-i l = PartsPut (λ j. be 4 (get_or l.fields j 0)) l.initial.out field_count l.i l.at l.out
+
+abbrev pub decreases-loop-i : goal.decreases-loop-i
+decreases-loop-i l = field_count - l.i
