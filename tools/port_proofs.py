@@ -315,7 +315,7 @@ def invariant(fn, decl, params, body, loop, k):
             return m.group(1)
         return names[m.group(1)]
 
-    body = re.sub(rf"(?<![^\s(,{{\[])({heads})(?=[\s).,}}\];]|$)", to, body)
+    body = re.sub(rf"(?<![^\s(,{{\[])({heads})(?=[\s).,}}\];]|$)(?!\s*=\s)", to, body)
     return re.sub(r"\(((?:l|now)(?:\.\w+)+)\)", r"\1", body)
 
 
