@@ -2,10 +2,9 @@
 use mathlib.Core.Path.{◌≡◌, sym, ◌∙◌}
 use Prim.Native.Nat.{◌+◌, ◌-◌, ◌*◌}
 use native.Mathlib.Omega.{arith}
-use borrow.Author.Rules.{rules}
 use Rattle.roster.proofs.Accepted.{sizes}
 use Rattle.assembly_copies.proofs.Fitting.{own-inside, own-length}
-use Rattle.assembly_copies.proofs.Turns.{Turned, turned_none, turned-all, turn-had, turn-unfit, turn-taken}
+use Rattle.assembly_copies.proofs.Turns.{turned_none, turned-all, turn-had, turn-unfit, turn-taken}
 use Rattle.assembly_copies.proofs.offer.Goals as goal
 
 pub overflow_sub-column : goal.overflow_sub-column
