@@ -75,7 +75,7 @@ loop-m-preserved-then-is_copy c =
     let p = c.requires in
     let size : a.sought.head + a.sought.tail * c.loop-m.m + a.sought.tail - (a.sought.head + a.sought.tail * c.loop-m.m) ≡ a.sought.tail = omega arith in
     turn-taken a.roster.now a.items.now a.wanted.now a.sought a.item a.rows.now (sizes a.roster.now p.fine).high p.lies p.alike
-    c.loop-m.m (omega arith) c.loop-m.rows c.loop-m.invariant p.inside p.cells c.if-rows-cell-eq0.true
+    c.loop-m.m (omega arith) c.loop-m.rows c.loop-m.invariant p.inside p.cells (omega arith)
     (sym (rw size at c.is_copy.ensures) ∙ c.if-is_copy.true)
 
 pub loop-m-preserved-else-is_copy : goal.loop-m-preserved-else-is_copy
@@ -91,7 +91,7 @@ loop-m-preserved c =
     let a = c.args in
     let p = c.requires in
     turn-had a.roster.now a.items.now a.wanted.now a.sought a.item a.rows.now (sizes a.roster.now p.fine).high p.lies p.alike
-    c.loop-m.m (omega arith) c.loop-m.rows c.loop-m.invariant c.if-rows-cell-eq0.false
+    c.loop-m.m (omega arith) c.loop-m.rows c.loop-m.invariant (λ e. omega (arith, e))
 
 pub returns : goal.returns
 returns c =
