@@ -277,6 +277,20 @@ class Function:
         return text
 
 
+def bound(body):
+    """The names that a `(x y : T) →` or a `λ x y.` of a term binds, each with where it holds: (names, from, to)."""
+    out = []
+    for m in re.finditer(r"[({]((?:[^\s(){}:,]+\s+)+):\s|λ ([^.()]+)\.\s", body):
+        depth, end = 0, m.start()
+        while end < len(body):
+            depth += {"(": 1, "[": 1, "{": 1, ")": -1, "]": -1, "}": -1}.get(body[end], 0)
+            if depth < 0:
+                break
+            end += 1
+        out.append(((m.group(1) or m.group(2)).split(), m.start(), end))
+    return out
+
+
 def invariant(fn, decl, params, body, loop, k):
     vars_ = loop[1]
     changed = fn.e["changed"][k]
@@ -294,7 +308,14 @@ def invariant(fn, decl, params, body, loop, k):
     if re.search(r"(?<![^\s(λ,])l(?![^\s.):,])", body):
         names = {a: "now" + b[1:] for a, b in names.items()}
     heads = "|".join(re.escape(a) for a in sorted(names, key=len, reverse=True))
-    body = re.sub(rf"(?<![^\s(,{{\[])({heads})(?=[\s).,}}\];]|$)", lambda m: names[m.group(1)], body)
+    hidden = bound(body)
+
+    def to(m):
+        if any(m.group(1) in own and a <= m.start() < b for own, a, b in hidden):
+            return m.group(1)
+        return names[m.group(1)]
+
+    body = re.sub(rf"(?<![^\s(,{{\[])({heads})(?=[\s).,}}\];]|$)(?!\s*=\s)", to, body)
     return re.sub(r"\(((?:l|now)(?:\.\w+)+)\)", r"\1", body)
 
 

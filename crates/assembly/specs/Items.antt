@@ -1,6 +1,7 @@
 -- The bag of items (document 02, W3): each a replica's number (u16), a statement and a signature, one after
 -- the other, over the term's width w and the signature's length S; check 19; and which copy counts.
-use Rattle.std.specs.Prelude.{Bool, true, false, cond, List, [], ◌∷◌, ℕ, zero, suc, ◌+◌, ◌-◌, eqb, ltb, get_or, take, drop}
+use Rattle.std.specs.Prelude.{Bool, true, false, cond, List, [], ◌∷◌, ℕ}
+use Rattle.std.specs.Prelude.{zero, suc, ◌+◌, ◌-◌, eqb, ltb, get_or, take, drop}
 use Rattle.std.proofs.Math.Option.{Option, some, none}
 use Rattle.words.specs.BigEndian.{number_at, same}
 use Rattle.refusal.specs.Checks.{all}
@@ -51,7 +52,8 @@ module _ (w S : ℕ) where
   unfoldable pub whole_after : ℕ → List ℕ → Bool
   whole_after zero [] = true
   whole_after (suc skip) [] = false
-  whole_after zero (b ∷ bs) = cond (ltb 0 (first_size w (b ∷ bs))) (whole_after (item_size (b ∷ bs) - 1) bs) false
+  whole_after zero (b ∷ bs) =
+      cond (ltb 0 (first_size w (b ∷ bs))) (whole_after (item_size (b ∷ bs) - 1) bs) false
   whole_after (suc skip) (b ∷ bs) = whole_after skip bs
 
   unfoldable pub whole : List ℕ → Bool

@@ -1,5 +1,6 @@
 -- The table of what is taken while candidates are tried, from n down: row by row.
-use Rattle.std.specs.Prelude.{◌≡◌, Bool, true, false, not, cond, List, [], ◌∷◌, ℕ, zero, suc, ◌+◌, ◌-◌, ◌*◌, ◌<◌, eqb, leb, get_or, take, drop}
+use Rattle.std.specs.Prelude.{◌≡◌, Bool, true, false, not, cond, List, [], ◌∷◌, ℕ}
+use Rattle.std.specs.Prelude.{zero, suc, ◌+◌, ◌-◌, ◌*◌, ◌<◌, eqb, leb, get_or, take, drop}
 use Rattle.std.proofs.Math.Option.{Option, some, none}
 use Rattle.std.specs.Int.Count.{ones}
 use Rattle.refusal.specs.Checks.{all}
@@ -45,7 +46,8 @@ Settled n candidate voted stamped count before after =
 
 -- what a row says of a term; nothing with candidate 0
 unfoldable pub lead_of_row : ℕ → List ℕ → Form → ℕ → List ℕ → Run → Option Lead
-lead_of_row S item_bytes form n row r = cond (eqb (get_or row 0 0) 0) none (some (lead_in S item_bytes form n row r))
+lead_of_row S item_bytes form n row r =
+    cond (eqb (get_or row 0 0) 0) none (some (lead_in S item_bytes form n row r))
 
 -- term t of some
 abbrev pub term_at : List Run → ℕ → Run

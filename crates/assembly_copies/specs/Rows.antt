@@ -1,6 +1,7 @@
 -- Copies by the places where their signatures stand in the bag; and what is taken for each term of a log and
 -- for the commit, as a table of such places.
-use Rattle.std.specs.Prelude.{cond, List, [], ◌∷◌, map, ℕ, ◌+◌, ◌-◌, ◌≤◌, ◌<◌, ◌*◌, eqb, length, get_or, take, drop}
+use Rattle.std.specs.Prelude.{cond, List, [], ◌∷◌, map, ℕ, ◌+◌, ◌-◌}
+use Rattle.std.specs.Prelude.{◌≤◌, ◌<◌, ◌*◌, eqb, length, get_or, take, drop}
 use Rattle.std.proofs.Math.Option.{Option, some, none}
 use Rattle.roster.specs.Sizes.{replicas_most}
 use Rattle.log_chain.specs.Log.{Form}

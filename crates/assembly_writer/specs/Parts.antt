@@ -1,6 +1,7 @@
 -- The parts of what is written, as the writers have them: from places of the bag, rows of what is taken, and
 -- the votes' table.
-use Rattle.std.specs.Prelude.{◌≡◌, cond, List, [], ◌∷◌, ◌++◌, ℕ, zero, suc, ◌+◌, ◌-◌, ◌*◌, ◌≤◌, ◌<◌, eqb, length, get_or, take, drop}
+use Rattle.std.specs.Prelude.{◌≡◌, cond, List, [], ◌∷◌, ◌++◌, ℕ, zero, suc}
+use Rattle.std.specs.Prelude.{◌+◌, ◌-◌, ◌*◌, ◌≤◌, ◌<◌, eqb, length, get_or, take, drop}
 use Rattle.words.specs.BigEndian.{be}
 use Rattle.words.specs.Widths.{width_most}
 use Rattle.roster.specs.Sizes.{replicas_most, signature_most}

@@ -2,12 +2,9 @@
 // current folder, and prints the lines of the report.
 #![tactic(auto)]
 
-ghost use Rattle.std.specs.Prelude.{◌≡◌, take, replicate};
-ghost use Rattle.io.specs.Counts.{IsPrefixLen};
+ghost use Rattle.std.specs.Prelude.{◌≡◌, ◌≤◌, length, take, replicate};
 ghost use Rattle.report.specs.Report.{report_size, report_after};
 ghost use Rattle.text_report.specs.Lines.{lines};
-
-use libc::STDOUT_FILENO;
 
 // Puts the lines of the report of three inputs at the start of `out`, and gives their length.
 fn report_lines(
@@ -16,7 +13,8 @@ fn report_lines(
     second: &[u8],
     out: &mut [u8; text_report::TEXT_SIZE],
 ) -> usize
-    ensures within { IsPrefixLen result out.new }
+    ensures within { result ≤ length out.new }
+    ensures taken { result ≡ length (take result out.new) }
     ensures text { take result out.new
         ≡ lines (report_after roster.now first.now second.now
         (replicate report_size 0)) }
@@ -26,19 +24,20 @@ fn report_lines(
     text_report::text(report, out)
 }
 
-// Prints the lines of the report of three inputs.
-fn print(roster: &[u8], first: &[u8], second: &[u8]) {
+// Prints the lines of the report of three inputs. That they cannot be written changes nothing: who looks for them
+// sees that they are not there.
+fn print(rt: &impl Print, roster: &[u8], first: &[u8], second: &[u8]) {
     let mut out = [0u8; text_report::TEXT_SIZE];
     let n = report_lines(roster, first, second, &mut out);
-    io::write_all(STDOUT_FILENO, &out[..n]);
+    let _ = rt.write_all(&out[..n]);
 }
 
-fn main() {
+fn main(rt: HostRuntime) {
     let mut roster = [0u8; 1024];
     let mut first = [0u8; 28672];
     let mut second = [0u8; 28672];
-    let r = program_files::load(b"roster", &mut roster);
-    let a = program_files::load(b"first", &mut first);
-    let b = program_files::load(b"second", &mut second);
-    print(&roster[..r], &first[..a], &second[..b]);
+    let r = program_files::load(&rt, b"roster", &mut roster);
+    let a = program_files::load(&rt, b"first", &mut first);
+    let b = program_files::load(&rt, b"second", &mut second);
+    print(&rt, &roster[..r], &first[..a], &second[..b]);
 }

@@ -1,7 +1,6 @@
 // A district's run (document 02, W1): its definitions and claims, and the values that the code shares.
 #![tactic(auto)]
 
-
 // The bytes of the report after the submissions' numbers: the union, and the pair.
 pub const TAIL_SIZE: usize = 4;
 

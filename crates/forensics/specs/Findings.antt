@@ -82,7 +82,8 @@ row_count = 9
 
 -- S is the bytes of a signature
 unfoldable pub findings : (Slot → Use) → ℕ → View → View → Findings
-findings as_use S a b = record { fork = fork a b; rows = rows_from as_use row_count 1 (slots S a) (slots S b) }
+findings as_use S a b =
+    record { fork = fork a b; rows = rows_from as_use row_count 1 (slots S a) (slots S b) }
 
 -- of two submissions under a roster
 unfoldable pub found_in : List ℕ → List ℕ → List ℕ → Findings

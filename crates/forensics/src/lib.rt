@@ -2,6 +2,5 @@
 // that a fork leads to a charge, and what the order of rows gives.
 #![tactic(auto)]
 
-
 // The replicas that have a row.
 pub const ROW_COUNT: usize = 9;

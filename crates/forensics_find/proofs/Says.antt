@@ -54,11 +54,11 @@ module _ (S : ℕ) (claim : Claim) where
   unfolding says certified slot replicas_from said_if
   says-from zero j mask i bytes h = absurd (omega arith)
   says-from (suc bits) j mask zero bytes h =
-      let here : j + 0 ≡ j = omega arith in
+      let here : j ≡ j + 0 = omega arith in
       ⊎_elim
       (λ (e : eqb (mask % 2) 1 ≡ true).
-      rw (div-one, e, here, eq-eqb j j refl) (ap (λ z. claim ∷ z) (says-low bits (suc j) (mask / 2) j (drop S bytes) (omega arith))))
-      (λ (e : eqb (mask % 2) 1 ≡ false). rw (div-one, e, here) (says-low bits (suc j) (mask / 2) j bytes (omega arith)))
+      rw (div-one, e, eq-eqb j (j + 0) here) (ap (λ z. claim ∷ z) (says-low bits (suc j) (mask / 2) (j + 0) (drop S bytes) (omega arith))))
+      (λ (e : eqb (mask % 2) 1 ≡ false). rw (div-one, e) (says-low bits (suc j) (mask / 2) (j + 0) bytes (omega arith)))
       (look (eqb (mask % 2) 1))
   says-from (suc bits) j mask (suc i) bytes h =
       let later : suc j + i ≡ j + suc i = omega arith in

@@ -1,4 +1,5 @@
-// The services of the crate hirelog, exported for C callers under their names (include/hirelog.h has the rules).
+// The services of the crate hirelog, exported for C callers under their names (include/hirelog.h has the
+// rules).
 #![tactic(auto)]
 
 ghost use Rattle.std.specs.Prelude.{◌≡◌};

@@ -1,26 +1,65 @@
 // A file, read whole into a buffer (document 01, "The report": the files of the program `audit`).
 #![tactic(auto)]
 
-ghost use Rattle.io.specs.Counts.{IsPrefixLen};
+ghost use Rattle.std.specs.Prelude.{◌≡◌, ◌<◌, ◌≤◌, length, take, IfSome, IsTrue};
+ghost use Rattle.std.specs.Io.KnownBytes.{Consumes, IsAtEnd};
+
+use std::fs::File;
+use std::io::Read;
+use std::rt::Files;
+use std::{io, str};
+
+// Opens a file for reading. A name that is no text names no file.
+fn open<R: Files>(files: &R, name: &[u8]) -> io::Result<R::File> {
+    match str::from_utf8(name) {
+        Ok(path) => File::open(files, path),
+        Err(_) => Err(io::Error::from(io::ErrorKind::NotFound)),
+    }
+}
+
+// Reads until `buffer` is full, the file ends or a read fails, and gives how many bytes it put at the start of
+// `buffer`: those that the file had next.
+fn read_full<F: Read>(file: &mut F, buffer: &mut [u8]) -> usize
+    ensures within { result ≤ length buffer.new }
+    ensures bytes { Consumes (F.remaining file.old) (F.remaining file.new) (take result buffer.new) }
+{
+    let mut done: usize = 0;
+    while done < buffer.len() {
+        match file.read(&mut buffer[done..]) {
+            Ok(0) | Err(_) => return done,
+            Ok(n) => done += n,
+        }
+    }
+    done
+}
 
 // Whether nothing is left to read, and the last read did not fail.
-fn at_end(file: i32) -> bool {
+fn at_end<F: Read>(file: &mut F) -> bool
+    ensures { IsTrue result → IsAtEnd (F.remaining file.old) }
+{
     let mut more = [0u8; 1];
-    libc::read(file, &mut more) == 0
+    matches!(file.read(&mut more), Ok(0))
+}
+
+// Puts what a file has left at the start of `buffer`, and gives its length: 0 where it cannot be read, or is
+// larger than `buffer`.
+fn read_whole<F: Read>(file: &mut F, buffer: &mut [u8]) -> usize
+    ensures within { result ≤ length buffer.new }
+    ensures whole { 0 < result → IfSome (F.remaining file.old) (λ bytes. take result buffer.new ≡ bytes) }
+{
+    let n = read_full(file, buffer);
+    if at_end(file) { n } else { 0 }
 }
 
 // Puts a file at the start of `buffer`, and gives its length: 0 for a file that is missing, that cannot be
 // read, or that is larger than `buffer`. No bytes are number 2 of a roster and number 5 of a submission, as
 // a larger file is: it is never validated by its beginning.
-pub fn load(name: &[u8], buffer: &mut [u8]) -> usize
-    ensures { IsPrefixLen result buffer.new }
+pub fn load<R: Files>(files: &R, name: &[u8], buffer: &mut [u8]) -> usize
+    ensures within { result ≤ length buffer.new }
+    ensures taken { result ≡ length (take result buffer.new) }
 {
-    let file = os::open_read(name);
-    if file < 0 {
+    let Ok(mut file) = open(files, name) else {
         return 0;
-    }
-    let n = io::read_full(file, buffer);
-    let whole = at_end(file);
-    libc::close(file);
-    if whole { n } else { 0 }
+    };
+    read_whole(&mut file, buffer)
 }

@@ -1,6 +1,7 @@
 -- The board rules (document 01, "Board rules"; the leaf rule: document 02, W5): state, acts, what each act
 -- may do, leaves behind and signs. A replica is document 01's board.
-use Rattle.std.specs.Prelude.{Bool, true, false, not, cond, List, [], ◌∷◌, ◌++◌, ℕ, ◌+◌, ◌^◌, leb, ltb, eqb, length, take}
+use Rattle.std.specs.Prelude.{Bool, true, false, not, cond, List, [], ◌∷◌}
+use Rattle.std.specs.Prelude.{◌++◌, ℕ, ◌+◌, ◌^◌, leb, ltb, eqb, length, take}
 use Rattle.std.proofs.Math.Option.{Option, some, none}
 use Rattle.words.specs.BigEndian.{same}
 use Rattle.refusal.specs.Checks.{all, every}

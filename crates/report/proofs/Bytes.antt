@@ -7,7 +7,7 @@ use mathlib.Core.Logic.{◌⊎◌, inl, inr}
 use Prim.Native.Nat.{ℕ, ◌<◌, ◌^◌}
 use borrow.Author.Tests.{eqb-true, eqb-false}
 use lib.Dec.{eqb}
-use Rattle.words.specs.BigEndian.{number, be, number_at}
+use Rattle.words.specs.BigEndian.{be, number_at}
 use Rattle.words.proofs.Laws.{number-be}
 use Rattle.refusal.proofs.Laws.{look}
 use Rattle.roster.specs.Roster.{roster_number}

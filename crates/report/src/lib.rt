@@ -3,7 +3,6 @@
 // it.
 #![tactic(auto)]
 
-
 // The bytes of a report.
 pub const REPORT_SIZE: usize = 53;
 

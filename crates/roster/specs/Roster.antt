@@ -1,6 +1,7 @@
 -- The roster (document 01, "The roster"): cluster name, n, then n public keys; and its checks ("What stops an
 -- audit", 2 to 4).
-use Rattle.std.specs.Prelude.{Bool, true, false, not, cond, List, [], ◌∷◌, ℕ, zero, suc, ◌+◌, ◌-◌, ◌*◌, ◌/◌, eqb, leb, length, take, drop}
+use Rattle.std.specs.Prelude.{Bool, true, false, not, cond, List, [], ◌∷◌, ℕ, zero}
+use Rattle.std.specs.Prelude.{suc, ◌+◌, ◌-◌, ◌*◌, ◌/◌, eqb, leb, length, take, drop}
 use Rattle.words.specs.BigEndian.{number_at, same}
 use Rattle.refusal.specs.Checks.{all, check, refusal}
 use Rattle.lm_digits.specs.Parameters.{byte_digits}
@@ -57,7 +58,8 @@ every_replica (suc n) test = cond (test (suc n)) (every_replica n test) false
 unfoldable pub sized : List ℕ → Bool
 sized roster =
     let n = replicas roster in
-    all (leb head_size (length roster) ∷ leb 3 n ∷ leb n 9 ∷ eqb (length roster) (head_size + key_size * n) ∷ [])
+    all (leb head_size (length roster) ∷ leb 3 n ∷ leb n 9
+    ∷ eqb (length roster) (head_size + key_size * n) ∷ [])
 
 -- 3: one-time type 4, and one tree type, from 5 to 9
 unfoldable pub typed : List ℕ → ℕ → Bool

@@ -1,6 +1,7 @@
 -- Operations on words and the message schedule, as FIPS 180-4 defines them. Words are of 32 bits, numbers
 -- below 2^32.
-use Rattle.std.specs.Prelude.{ℕ, zero, suc, ◌+◌, ◌-◌, ◌*◌, ◌/◌, ◌%◌, ◌^◌, List, [], ◌∷◌, ◌++◌, bit_and, bit_or, bit_xor, slice_index, slice_index_or}
+use Rattle.std.specs.Prelude.{ℕ, zero, suc, ◌+◌, ◌-◌, ◌*◌, ◌/◌, ◌%◌, ◌^◌}
+use Rattle.std.specs.Prelude.{List, [], ◌∷◌, ◌++◌, bit_and, bit_or, bit_xor, slice_index, slice_index_or}
 
 infixl 65 ◌⊞◌
 -- ---- operations on words
@@ -41,7 +42,9 @@ unfoldable pub σ₁ : ℕ → ℕ
 
 -- W_t from the words before it, for t from 16 on
 unfoldable pub next_word : List ℕ → ℕ → ℕ
-next_word w t = σ₁ (slice_index w (t - 2)) ⊞ slice_index_or w (t - 7) 0 ⊞ σ₀ (slice_index w (t - 15)) ⊞ slice_index_or w (t - 16) 0
+next_word w t =
+    σ₁ (slice_index w (t - 2)) ⊞ slice_index_or w (t - 7) 0
+    ⊞ σ₀ (slice_index w (t - 15)) ⊞ slice_index_or w (t - 16) 0
 
 -- the sixteen words of a block, and n words more
 unfoldable pub extend : ℕ → List ℕ → List ℕ

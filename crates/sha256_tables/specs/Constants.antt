@@ -56,7 +56,8 @@ pub record RootFraction (degree p k : ℕ) : Type 0 where
 -- the first entries of a table are root fractions of the first primes, one after the other
 unfoldable pub RootTable : ℕ → ℕ → List ℕ → Type 0
 RootTable degree count table =
-    (length table ≡ count) × ((t : ℕ) → t < count → RootFraction degree (get_or primes t 0) (get_or table t 0))
+    (length table ≡ count)
+    × ((t : ℕ) → t < count → RootFraction degree (get_or primes t 0) (get_or table t 0))
 
 -- the claims: the first 64 primes, the cube roots (4.2.2), the square roots (5.3.3)
 unfoldable pub FirstPrimes : Type 0

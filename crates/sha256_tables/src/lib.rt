@@ -1,7 +1,6 @@
 // The tables of SHA-256 (FIPS 180-4, 4.2.2 and 5.3.3). Their rules are proved in `proofs/Tables.antt`.
 #![tactic(auto)]
 
-
 // The constants of the rounds (FIPS 180-4, 4.2.2).
 pub const K: [u32; 64] = [
     0x428a_2f98,

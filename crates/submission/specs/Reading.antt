@@ -97,6 +97,7 @@ module _ (w S : ℕ) (s : List ℕ) where
       let T = trailer_at s in
       all (
       eqb (distance s 1) T ∷ eqb (leaders_from + distance s 2) T ∷ eqb (stamps_from + distance s 3) T ∷
-      eqb (commit_from + distance s 4) T ∷ cond (eqb (distance s 4) 0) true (eqb (commit_end S s commit_from) T)
+      eqb (commit_from + distance s 4) T
+      ∷ cond (eqb (distance s 4) 0) true (eqb (commit_end S s commit_from) T)
       ∷ []
       )

@@ -16,9 +16,12 @@ use Rattle.submission_checks.specs.declared.Validated.{Validated}
 use Rattle.submission_checks.specs.Pointers.{PointersHanded}
 
 module _ (form : Form) (v : View) (validated : Validated) where
-  pub refuses : {number asked : ℕ} → 0 < number → (validated.number ≡ number) × ((form : Form) → PointersOf form [] [] validated.pointers) → asked ≡ number
-      → (validated.number ≡ asked) × PointersHanded form v validated
-  refuses more r e = (r.0 ∙ sym e, unmet-pointers _ form (committed v) v.log (ne_eqb validated.number 0 (λ z. omega (arith, z, r.0, more))) (r.1 form))
+  pub refuses : {number asked : ℕ} → 0 < number → record { number : validated.number ≡ number; pointers : (form : Form) → PointersOf form [] [] validated.pointers } → asked ≡ number
+      → record { number : validated.number ≡ asked; pointers : PointersHanded form v validated }
+  refuses more r e = record {
+    number = r.number ∙ sym e;
+    pointers = unmet-pointers _ form (committed v) v.log (ne_eqb validated.number 0 (λ z. omega (arith, z, r.number, more))) (r.pointers form);
+  }
 
   -- what it gives: with number 0 the pointers of the committed records and of the log, with another nothing of them
 

@@ -23,4 +23,6 @@ module _ (roster : List ℕ) (w S : ℕ) (s : List ℕ) where
   -- 9
   unfoldable pub part_checks : List Check
   part_checks =
-      check 9 (laid_out w S s) ∷ check 10 (every (quorate (replicas roster)) (masks (view w S s))) ∷ log_checks
+      check 9 (laid_out w S s)
+      ∷ check 10 (every (quorate (replicas roster)) (masks (view w S s)))
+      ∷ log_checks

@@ -1,6 +1,7 @@
 -- Uses of leaves as a buffer holds them, one entry after the other: the leaf's number, the length of its
 -- message, and the message with zeros after it (document 02, W5).
-use Rattle.std.specs.Prelude.{Bool, true, false, cond, List, [], ◌∷◌, ◌++◌, ℕ, zero, suc, ◌+◌, ◌-◌, ◌*◌, length, take, drop, replicate}
+use Rattle.std.specs.Prelude.{Bool, true, false, cond, List, [], ◌∷◌, ◌++◌, ℕ}
+use Rattle.std.specs.Prelude.{zero, suc, ◌+◌, ◌-◌, ◌*◌, length, take, drop, replicate}
 use Rattle.lm_format.specs.Leaf.{leaf_size, leaf_at}
 use Rattle.lm_format.specs.Uses.{Use, use_of, reused}
 use Rattle.submission.specs.Sizes.{statement_most}

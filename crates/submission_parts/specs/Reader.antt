@@ -66,7 +66,8 @@ module _ (w S : ℕ) (s : List ℕ) where
 
   -- so many leader certificates, one after the other
   unfoldable pub place_after : ℕ → ℕ → ℕ → Place
-  place_after count at end = let next = certificates_end w S s count at in cond (leb next end) (At next) Beyond
+  place_after count at end =
+      let next = certificates_end w S s count at in cond (leb next end) (At next) Beyond
 
 module _ (S : ℕ) (s : List ℕ) where
   -- the commit certificate at a place

@@ -5,38 +5,28 @@
 // four bytes of the signature, and the steps that the separately written auditor counts.
 #![tactic(auto)]
 
-ghost use Rattle.io.specs.Counts.{IsPrefixLen};
+ghost use Rattle.std.specs.Prelude.{◌≡◌, ◌≤◌, length, take};
 
-use libc::STDOUT_FILENO;
 use lm_answer::Answer;
+use std::io;
+use std::rt::Files;
 
 // More bytes than either file has.
 const TEXT_SIZE: usize = 524288;
 
 // Prints an answer as a line.
-fn print_answer(answer: Answer) {
+fn print_answer(rt: &impl Print, answer: Answer) -> io::Result<()> {
     match answer {
-        Answer::Good(leaf, steps) => {
-            io::write_all(STDOUT_FILENO, b"1 ");
-            io::print_decimal(STDOUT_FILENO, leaf as u64);
-            io::write_all(STDOUT_FILENO, b" ");
-            io::print_decimal(STDOUT_FILENO, steps as u64);
-            io::write_all(STDOUT_FILENO, b"\n");
-        }
-        Answer::Bad(steps) => {
-            io::write_all(STDOUT_FILENO, b"0 ");
-            io::print_decimal(STDOUT_FILENO, steps as u64);
-            io::write_all(STDOUT_FILENO, b"\n");
-        }
-        Answer::Long => {
-            io::write_all(STDOUT_FILENO, b"long\n");
-        }
+        Answer::Good(leaf, steps) => println!(rt; "1 {leaf} {steps}"),
+        Answer::Bad(steps) => println!(rt; "0 {steps}"),
+        Answer::Long => println!(rt; "long"),
     }
 }
 
 // Decodes the hex digits at a place of `text` to the start of `out`, and gives the number of bytes.
 fn decode_at(text: &[u8], at: usize, out: &mut [u8]) -> usize
-    ensures { IsPrefixLen result out.new }
+    ensures within { result ≤ length out.new }
+    ensures taken { result ≡ length (take result out.new) }
 {
     if text.len() < at {
         return 0;
@@ -45,42 +35,41 @@ fn decode_at(text: &[u8], at: usize, out: &mut [u8]) -> usize
 }
 
 // Prints the answer for the line that `text` starts with.
-fn print_line(text: &[u8]) {
+fn print_line(rt: &impl Print, text: &[u8]) -> io::Result<()> {
     let valid_at = test_vectors::past(text, 0, b' ');
     let key_at = test_vectors::past(text, valid_at, b' ');
     let message_at = test_vectors::past(text, key_at, b' ');
     let signature_at = test_vectors::past(text, message_at, b' ');
-    let mut key = io::buffer();
-    let mut message = io::buffer();
-    let mut signature = io::large_buffer();
+    let mut key = [0u8; 4096];
+    let mut message = [0u8; 4096];
+    let mut signature = [0u8; 65536];
     let k = decode_at(text, key_at, &mut key);
     let m = decode_at(text, message_at, &mut message);
     let s = decode_at(text, signature_at, &mut signature);
-    print_answer(lms::check(&key[..k], &message[..m], &signature[..s]));
+    print_answer(rt, lms::check(&key[..k], &message[..m], &signature[..s]))
 }
 
-// Prints the answer for each line. (`test_sha256` has the same loop around another function: Rattle has no
-// function parameters.)
-fn print_lines(text: &[u8]) {
+// Prints the answer for each line. (`test_sha256` has the same loop around another function.)
+fn print_lines(rt: &impl Print, text: &[u8]) -> io::Result<()> {
     let mut at = 0;
     while at < text.len() {
-        print_line(&text[at..]);
+        print_line(rt, &text[at..])?;
         at = test_vectors::past(text, at, b'\n');
     }
+    Ok(())
 }
 
 // Prints the answers for a file's lines. A file that cannot be read whole is an error in the output.
-fn print_file(name: &[u8]) {
+fn print_file(rt: &(impl Files + Print), name: &[u8]) -> io::Result<()> {
     let mut text = [0u8; TEXT_SIZE];
-    let n = test_vectors::load(name, &mut text);
+    let n = test_vectors::load(rt, name, &mut text);
     if n == 0 {
-        io::write_all(STDOUT_FILENO, b"cannot read\n");
-        return;
+        return rt.write_all(b"cannot read\n");
     }
-    print_lines(&text[..n]);
+    print_lines(rt, &text[..n])
 }
 
-fn main() {
-    print_file(b"lms-rfc8554.txt");
-    print_file(b"lms-acvp.txt");
+fn main(rt: HostRuntime) -> io::Result<()> {
+    print_file(&rt, b"lms-rfc8554.txt")?;
+    print_file(&rt, b"lms-acvp.txt")
 }

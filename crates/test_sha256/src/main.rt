@@ -3,47 +3,48 @@
 // digest is not read here: the file `stdout` has them.
 #![tactic(auto)]
 
-use libc::STDOUT_FILENO;
+use std::io;
+use std::rt::Files;
 
 // Prints a digest as a line.
-fn print_line(digest: &[u8; 32]) {
-    test_vectors::print_hex(digest);
-    io::write_all(STDOUT_FILENO, b"\n");
+fn print_line(rt: &impl Print, digest: &[u8; 32]) -> io::Result<()> {
+    test_vectors::print_hex(rt, digest)?;
+    rt.write_all(b"\n")
 }
 
 // Prints the digest of the message that `digits` starts with.
-fn print_digest(digits: &[u8]) {
-    let mut message = io::buffer();
+fn print_digest(rt: &impl Print, digits: &[u8]) -> io::Result<()> {
+    let mut message = [0u8; 4096];
     let n = test_vectors::decode(digits, &mut message);
     let mut digest = [0u8; 32];
     if sha256_service::digest(&message[..n], &mut digest) == 0 {
-        print_line(&digest);
+        print_line(rt, &digest)
     } else {
-        io::write_all(STDOUT_FILENO, b"no digest\n");
+        rt.write_all(b"no digest\n")
     }
 }
 
 // Prints the digest of each line's message. (`test_lms` has the same loop around another function.)
-fn print_lines(text: &[u8]) {
+fn print_lines(rt: &impl Print, text: &[u8]) -> io::Result<()> {
     let mut at = 0;
     while at < text.len() {
-        print_digest(&text[at..]);
+        print_digest(rt, &text[at..])?;
         at = test_vectors::past(text, at, b'\n');
     }
+    Ok(())
 }
 
 // Prints the digests of a file's messages. A file that cannot be read whole is an error in the output.
-fn print_file(name: &[u8]) {
-    let mut text = io::large_buffer();
-    let n = test_vectors::load(name, &mut text);
+fn print_file(rt: &(impl Files + Print), name: &[u8]) -> io::Result<()> {
+    let mut text = [0u8; 65536];
+    let n = test_vectors::load(rt, name, &mut text);
     if n == 0 {
-        io::write_all(STDOUT_FILENO, b"cannot read\n");
-        return;
+        return rt.write_all(b"cannot read\n");
     }
-    print_lines(&text[..n]);
+    print_lines(rt, &text[..n])
 }
 
-fn main() {
-    print_file(b"sha256-fips180.txt");
-    print_file(b"sha256-cavp.txt");
+fn main(rt: HostRuntime) -> io::Result<()> {
+    print_file(&rt, b"sha256-fips180.txt")?;
+    print_file(&rt, b"sha256-cavp.txt")
 }

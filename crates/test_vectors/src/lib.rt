@@ -2,22 +2,18 @@
 // lines, each of fields in hex that a space separates; `-` stands for no bytes.
 #![tactic(auto)]
 
-ghost use Rattle.std.specs.Prelude.{◌+◌, ◌≤◌, ◌<◌, length};
-ghost use Rattle.io.specs.Counts.{IsPrefixLen};
+ghost use Rattle.std.specs.Prelude.{◌≡◌, ◌+◌, ◌<◌, ◌≤◌, length, take};
 
-use libc::STDOUT_FILENO;
+use std::io;
+use std::rt::Files;
 
-// Puts the file at the start of `text`, and gives its length; 0 if the file cannot be opened or is not
+// Puts the file at the start of `text`, and gives its length; 0 if the file cannot be opened or read, or is not
 // shorter than `text`.
-pub fn load(name: &[u8], text: &mut [u8]) -> usize
-    ensures { IsPrefixLen result text.new }
+pub fn load(files: &impl Files, name: &[u8], text: &mut [u8]) -> usize
+    ensures within { result ≤ length text.new }
+    ensures taken { result ≡ length (take result text.new) }
 {
-    let file = os::open_read(name);
-    if file < 0 {
-        return 0;
-    }
-    let n = io::read_full(file, text);
-    libc::close(file);
+    let n = program_files::load(files, name, text);
     if n < text.len() { n } else { 0 }
 }
 
@@ -29,8 +25,10 @@ pub fn past(text: &[u8], at: usize, mark: u8) -> usize
     if text.len() <= at {
         return text.len();
     }
-    let found = bytes::scan::find(text, at, text.len(), mark);
-    if found < text.len() { found + 1 } else { found }
+    match text[at..].iter().position(|c| *c == mark) {
+        Some(n) => at + n + 1,
+        None => text.len(),
+    }
 }
 
 // The value of a hex digit, or 16 if `c` is none.
@@ -64,7 +62,8 @@ fn pair(digits: &[u8], n: usize) -> u16
 // Decodes the hex digits that `digits` starts with to the start of `out`, and gives the number of bytes.
 // It stops at the first pair that is not two digits, and when `out` is full.
 pub fn decode(digits: &[u8], out: &mut [u8]) -> usize
-    ensures within { IsPrefixLen result out.new }
+    ensures within { result ≤ length out.new }
+    ensures taken { result ≡ length (take result out.new) }
     ensures pairs { result + result ≤ length digits.now }
 {
     let mut n: usize = 0;
@@ -80,8 +79,9 @@ pub fn decode(digits: &[u8], out: &mut [u8]) -> usize
 }
 
 // Prints each byte as two lowercase hex digits.
-pub fn print_hex(bytes: &[u8]) {
-    for i in 0..bytes.len() {
-        io::print_hex(STDOUT_FILENO, bytes[i] as u64, 2);
+pub fn print_hex(rt: &impl Print, bytes: &[u8]) -> io::Result<()> {
+    for byte in bytes {
+        print!(rt; "{byte:02x}")?;
     }
+    Ok(())
 }

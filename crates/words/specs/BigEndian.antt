@@ -1,6 +1,7 @@
 -- Big-endian unsigned numbers as lists of bytes (document 01, "The parts ordered": u16 is 2 bytes, u32 is 4).
 -- Width is the count of bytes, and stays a parameter.
-use Rattle.std.specs.Prelude.{Bool, true, false, cond, List, [], ◌∷◌, ℕ, zero, suc, ◌+◌, ◌*◌, ◌/◌, ◌%◌, ◌^◌, eqb, length, take, drop}
+use Rattle.std.specs.Prelude.{Bool, true, false, cond, List, [], ◌∷◌, ℕ, zero}
+use Rattle.std.specs.Prelude.{suc, ◌+◌, ◌*◌, ◌/◌, ◌%◌, ◌^◌, eqb, length, take, drop}
 
 -- the number that a list of bytes stands for, highest byte first
 unfoldable pub number : List ℕ → ℕ

@@ -1,11 +1,9 @@
 -- What is left after the first lengths is the sum of the others just where the whole is the sum of all.
 use mathlib.Core.Path.{◌≡◌, refl, sym, ◌∙◌}
-use Prim.Native.Nat.{suc, ◌+◌, ◌-◌, ◌≤◌}
+use Prim.Native.Nat.{suc, ◌+◌}
 use native.Mathlib.Omega.{arith}
 use borrow.Author.Rules.{rules}
-use lib.Dec.{eqb}
-use lib.ListN.{length, drop}
-use Rattle.district_parts.specs.Parts.{total, adds_up}
+use Rattle.district_parts.specs.Parts.{adds_up}
 use Rattle.district_parts.proofs.Sums.{too_long_lem, taken, all-taken}
 use Rattle.district_parts.proofs.lengths_add_up.Goals as goal
 

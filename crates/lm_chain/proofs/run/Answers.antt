@@ -1,15 +1,13 @@
 -- A step of each chain a turn, and the blocks of the next.
-use Prim.Native.Nat.{ℕ, ◌+◌, ◌-◌, ◌≤◌, ◌<◌}
+use Prim.Native.Nat.{ℕ, ◌+◌}
 use mathlib.Core.Path.{◌≡◌, refl, sym, ap, ◌∙◌}
 use native.Mathlib.Nat.{add-zero}
 use native.Mathlib.Omega.{arith}
 use borrow.Author.Rules.{rules}
-use lib.ListN.{length, get_or, take}
-use Rattle.sha256.specs.declared.State.{State}
-use Rattle.sha256.specs.Sha256.{rounds, initial, bytes_of}
-use Rattle.lm_hash.specs.declared.Leaf.{Leaf}
+use lib.ListN.{get_or, take}
+use Rattle.sha256.specs.Sha256.{rounds}
 use Rattle.lm_hash.specs.Identifier.{identifier}
-use Rattle.sha256_lanes.specs.Lane.{Lane, first, lane, state, word_in}
+use Rattle.sha256_lanes.specs.Lane.{first, lane, state}
 use Rattle.lm_chain_blocks.specs.Block.{step_block}
 use Rattle.lm_chain.specs.Chain.{stepped, chain}
 use Rattle.lm_chain.proofs.Chains.{chain-last}

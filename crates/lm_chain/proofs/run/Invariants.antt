@@ -1,20 +1,14 @@
 -- A step of each chain a turn, and the blocks of the next.
 use Prim.Native.Nat.{ℕ, ◌+◌, ◌-◌, ◌≤◌, ◌<◌}
-use mathlib.Core.Path.{◌≡◌, refl, sym, ap, ◌∙◌}
-use native.Mathlib.Nat.{add-zero}
-use native.Mathlib.Omega.{arith}
-use borrow.Author.Rules.{rules}
+use mathlib.Core.Path.{◌≡◌}
 use lib.ListN.{length, get_or, take}
 use Rattle.sha256.specs.declared.State.{State}
 use Rattle.sha256.specs.Sha256.{rounds, initial, bytes_of}
 use Rattle.lm_hash.specs.declared.Leaf.{Leaf}
 use Rattle.lm_hash.specs.Identifier.{identifier}
-use Rattle.sha256_lanes.specs.Lane.{Lane, first, lane, state, word_in}
+use Rattle.sha256_lanes.specs.Lane.{Lane, lane, state, word_in}
 use Rattle.lm_chain_blocks.specs.Block.{step_block}
-use Rattle.lm_chain.specs.Chain.{stepped, chain}
-use Rattle.lm_chain.proofs.Chains.{chain-last}
-use Rattle.lm_chain_blocks.proofs.Blocks.{block_length}
-use Rattle.lm_chain.proofs.Stepped.{step_result}
+use Rattle.lm_chain.specs.Chain.{chain}
 use Rattle.lm_chain.proofs.run.Given as goal
 
 abbrev pub invariant-loop-m : goal.invariant-loop-m

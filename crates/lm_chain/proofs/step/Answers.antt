@@ -1,6 +1,5 @@
 -- The message of a step has 55 bytes, so that its digest takes one block.
 use Rattle.lm_chain.proofs.Stepped.{step_result}
-use borrow.Author.Rules.{rules}
 use Rattle.lm_chain.proofs.step.Goals as goal
 
 pub returns : goal.returns

@@ -2,7 +2,6 @@
 use Prim.Native.Nat.{ℕ}
 use mathlib.Core.Path.{◌≡◌, ap, ◌∙◌}
 use mathlib.Core.List.{List}
-use borrow.Author.Rules.{rules}
 use lib.ListN.{get_or}
 use Rattle.sha256_lanes.specs.Lane.{Lane, first, second, third, fourth, pick, lane, state}
 use Rattle.lm_chain_blocks.specs.Block.{step_block}

@@ -1,6 +1,5 @@
 -- The definition's own sum.
 use mathlib.Core.Path.{refl}
-use borrow.Author.Rules.{rules}
 use Rattle.lm_chain_blocks.specs.Block.{last_word}
 use Rattle.lm_chain_blocks.proofs.last.Goals as goal
 

@@ -1,5 +1,4 @@
 -- Nine words in their places, and the others as they were.
-use borrow.Author.Rules.{rules}
 use Rattle.sha256_lanes.specs.Lane.{first, second, third, fourth, pick, lane, state}
 use Rattle.sha256_lane_words.proofs.Each.{each}
 use Rattle.lm_chain_blocks.proofs.Blocks.{moved_on}

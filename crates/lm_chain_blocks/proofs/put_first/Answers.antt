@@ -1,5 +1,4 @@
 -- Three words in their places: what the three functions of this shape argue is `three_puts`.
-use borrow.Author.Rules.{rules}
 use Rattle.lm_chain_blocks.proofs.Blocks.{three_puts}
 use Rattle.lm_chain_blocks.proofs.put_first.Goals as goal
 

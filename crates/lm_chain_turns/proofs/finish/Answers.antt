@@ -1,9 +1,8 @@
 -- A step of the chain a turn.
-use Prim.Native.Nat.{ℕ, ◌-◌, ◌≤◌}
-use mathlib.Core.Path.{◌≡◌, refl, ap, ◌∙◌}
+use Prim.Native.Nat.{ℕ}
+use mathlib.Core.Path.{refl, ap, ◌∙◌}
 use mathlib.Core.List.{List}
 use native.Mathlib.Omega.{arith}
-use borrow.Author.Rules.{rules}
 use Rattle.sha256.specs.Sha256.{bytes_of}
 use Rattle.lm_hash.specs.Identifier.{identifier}
 use Rattle.sha256_lanes.specs.Lane.{changed}

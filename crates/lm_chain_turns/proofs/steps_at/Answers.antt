@@ -1,6 +1,5 @@
 -- The four as they stand.
 use mathlib.Core.Path.{refl}
-use native.Mathlib.Omega.{arith}
 use Rattle.sha256_lanes.specs.Lane.{pick, lane}
 use Rattle.sha256_lane_words.proofs.Each.{each}
 use Rattle.lm_chain_turns.proofs.steps_at.Goals as goal

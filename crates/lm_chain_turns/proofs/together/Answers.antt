@@ -1,11 +1,8 @@
 -- A turn keeps what the chains come to.
-use Prim.Native.Nat.{ℕ, ◌-◌, ◌≤◌}
-use mathlib.Core.Path.{◌≡◌, refl, sym, ap, ◌∙◌}
+use mathlib.Core.Path.{refl, sym, ap, ◌∙◌}
 use native.Mathlib.Omega.{arith}
 use borrow.Author.Rules.{rules}
-use lib.ListN.{length, get_or}
-use Rattle.lm_hash.specs.Identifier.{identifier}
-use Rattle.lm_chain_turns.specs.Ahead.{ahead}
+use lib.ListN.{length}
 use Rattle.lm_chain_turns.proofs.together.Goals as goal
 use Rattle.lm_chain_turns.proofs.together.Goals.{then-d-p, else-d-p}
 

@@ -1,9 +1,6 @@
 -- A turn keeps what the chains come to.
 use Prim.Native.Nat.{ℕ, ◌-◌, ◌≤◌}
-use mathlib.Core.Path.{◌≡◌, refl, sym, ap, ◌∙◌}
-use mathlib.Core.Logic.{⊎_elim}
-use native.Mathlib.Omega.{arith}
-use borrow.Author.Rules.{rules}
+use mathlib.Core.Path.{◌≡◌}
 use lib.ListN.{length, get_or}
 use Rattle.lm_hash.specs.Identifier.{identifier}
 use Rattle.lm_chain_turns.specs.Ahead.{ahead}

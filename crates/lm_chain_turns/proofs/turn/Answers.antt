@@ -2,7 +2,6 @@
 use Prim.Native.Nat.{ℕ, ◌+◌, ◌≤◌}
 use mathlib.Core.Path.{ap, ◌∙◌}
 use native.Mathlib.Omega.{arith}
-use borrow.Author.Rules.{rules}
 use lib.ListN.{get_or}
 use Rattle.lm_hash.specs.Identifier.{identifier}
 use Rattle.sha256_lanes.specs.Lane.{Lane, first, second, third, fourth, pick, lane, state, changed}

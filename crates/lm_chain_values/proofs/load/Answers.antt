@@ -1,8 +1,8 @@
 -- One value a turn.
-use Prim.Native.Nat.{ℕ, ◌-◌, ◌*◌, ◌≤◌, ◌<◌}
+use Prim.Native.Nat.{ℕ, ◌*◌}
 use mathlib.Core.Path.{◌≡◌, refl, sym, ◌∙◌}
 use native.Mathlib.Omega.{arith}
-use lib.ListN.{length, take, drop}
+use lib.ListN.{take, drop}
 use Rattle.lm_chain_values.specs.Values.{value_at}
 use Rattle.lm_digits.proofs.Counting.{one_more}
 use Rattle.sha256_lane_words.proofs.Places.{changed-same, changed-other}

@@ -1,6 +1,5 @@
 -- One value after the other.
 use mathlib.Core.Path.{◌∙◌}
-use native.Mathlib.Omega.{arith}
 use Rattle.sha256_lane_words.proofs.Places.{changed_in}
 use Rattle.lm_chain_values.proofs.put_four.Goals as goal
 

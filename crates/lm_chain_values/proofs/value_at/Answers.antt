@@ -1,5 +1,4 @@
 -- The eight words of the value.
-use native.Mathlib.Omega.{arith}
 use Rattle.sha256.specs.Sha256.{bytes_of, words_of}
 use Rattle.lm_chain_values.proofs.Buffers.{value_words}
 use Rattle.lm_chain_values.proofs.value_at.Goals as goal

@@ -4,7 +4,6 @@ use native.Mathlib.Omega.{arith}
 use Rattle.lm_digits.proofs.Figures.{known-few}
 use Rattle.lm_format.specs.Format.{one_time_bytes, path_at, signature_length}
 use Rattle.lm_format.proofs.Forms.{shifted_one, wrong-length, wrong-one-time, wrong-tree, wrong-leaf, right}
-use borrow.Author.Rules.{rules}
 use Rattle.lm_format.proofs.signature_formed.Goals as goal
 
 pub overflow_add-end : goal.overflow_add-end

@@ -2,7 +2,6 @@
 use mathlib.Core.Path.{ap, ◌∙◌}
 use lib.ListN.{take}
 use Rattle.lm_hash.proofs.Values.{head_bytes}
-use borrow.Author.Rules.{rules}
 use Rattle.lm_hash.proofs.head.Goals as goal
 
 pub returns : goal.returns

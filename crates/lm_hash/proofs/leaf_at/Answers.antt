@@ -6,7 +6,6 @@ use mathlib.Core.List.{flat_map}
 use Rattle.words.specs.BigEndian.{be}
 use Rattle.lm_hash.specs.Identifier.{identifier}
 use Rattle.lm_hash.proofs.Values.{four-words}
-use borrow.Author.Rules.{rules}
 use Rattle.lm_hash.proofs.leaf_at.Goals as goal
 
 pub returns : goal.returns

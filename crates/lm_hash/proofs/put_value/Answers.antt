@@ -1,5 +1,4 @@
 -- The bytes of the value, written to the place.
-use borrow.Author.Rules.{rules}
 use Rattle.lm_hash.proofs.put_value.Goals as goal
 
 pub returns : goal.returns

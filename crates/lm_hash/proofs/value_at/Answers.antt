@@ -3,7 +3,6 @@ use Prim.Native.Nat.{ℕ, ◌<◌}
 use lib.ListN.{get_or}
 use Rattle.sha256.specs.Sha256.{bytes_of, words_of}
 use Rattle.lm_hash.proofs.Values.{eight-words}
-use borrow.Author.Rules.{rules}
 use Rattle.lm_hash.proofs.value_at.Goals as goal
 
 pub returns : goal.returns

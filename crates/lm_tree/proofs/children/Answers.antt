@@ -1,5 +1,4 @@
 -- Each branch is the definition's at its test.
-use borrow.Author.Rules.{rules}
 use borrow.Author.Tests.{eq-eqb, ne_eqb}
 use Prim.Native.Nat.{◌%◌}
 use Rattle.lm_tree.proofs.children.Goals as goal

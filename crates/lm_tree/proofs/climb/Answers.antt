@@ -1,9 +1,7 @@
 -- One level a turn: the levels that are left give what all of them give.
 -- A loop that counts down, with the needs of any such loop; the step that is its own is `climb-first`.
 use mathlib.Core.Path.{◌≡◌, refl}
-use Prim.Native.Nat.{◌+◌, ◌*◌}
 use native.Mathlib.Omega.{arith}
-use lib.ListN.{length, drop}
 use Rattle.sha256.specs.Sha256.{bytes_of}
 use Rattle.lm_hash.specs.Identifier.{identifier}
 use Rattle.lm_tree.specs.Tree.{climb}

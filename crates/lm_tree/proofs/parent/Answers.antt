@@ -1,7 +1,6 @@
 -- The children's bytes are hashed under the parent's number.
 use mathlib.Core.Path.{ap, ◌∙◌}
 use Prim.Native.Nat.{◌/◌}
-use borrow.Author.Rules.{rules}
 use Rattle.lm_hash.specs.Identifier.{identifier}
 use Rattle.lm_hash.specs.Tagged.{tagged}
 use Rattle.lm_tree.specs.Tree.{parent, D-INTR}

@@ -1,7 +1,6 @@
 -- The leaf's value, then every level above it; 2^h is not shifted out of a word.
 use mathlib.Core.Path.{◌∙◌}
 use native.Mathlib.Omega.{arith}
-use borrow.Author.Rules.{rules}
 use lib.Pow.{pow_mono}
 use Rattle.lm_tree.specs.Tree.{root, D-LEAF}
 use Rattle.lm_format.proofs.Forms.{shifted_one}

@@ -5,7 +5,6 @@ use Rattle.lm_digits.specs.Parameters.{one_time}
 use Rattle.lm_format.specs.Format.{height}
 use Rattle.lm_format.proofs.Forms.{height-le}
 use Rattle.lms.proofs.Answers.{long-message, wrong-key, no-one-time, no-height, by-types}
-use borrow.Author.Rules.{rules}
 use Rattle.lms.proofs.check.Goals as goal
 
 pub returns-then-message-gt-MESSAGE_MAX : goal.returns-then-message-gt-MESSAGE_MAX

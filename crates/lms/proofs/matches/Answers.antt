@@ -7,7 +7,6 @@ use Rattle.words.specs.BigEndian.{same}
 use Rattle.words.proofs.Laws.{part_end}
 use Rattle.words.proofs.Same.{same_test}
 use Rattle.sha256.specs.Sha256.{bytes_of}
-use borrow.Author.Rules.{rules}
 use Rattle.lms.proofs.matches.Goals as goal
 
 pub returns : goal.returns

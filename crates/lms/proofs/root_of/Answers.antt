@@ -15,7 +15,6 @@ use Rattle.lm_ots.proofs.Rows.{few}
 use Rattle.lm_format.specs.Format.{one_time_bytes, path_at, signature_length}
 use Rattle.lm_tree.specs.Tree.{root}
 use Rattle.lms.specs.Check.{hash_of, root_of}
-use borrow.Author.Rules.{rules}
 use Rattle.lms.proofs.root_of.Goals as goal
 
 pub u32_at-requires : goal.u32_at-requires

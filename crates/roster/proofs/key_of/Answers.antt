@@ -6,7 +6,6 @@ use lib.ListN.{length, drop, length-drop}
 use lib.Seq.{length-take-le}
 use Rattle.lm_format.specs.Format.{key_size}
 use Rattle.roster.specs.Roster.{head_size, key_of}
-use borrow.Author.Rules.{rules}
 use Rattle.roster.proofs.key_of.Goals as goal
 
 pub returns : goal.returns

@@ -1,7 +1,6 @@
 -- Each variant has the definition's levels, of which no height has more than 25.
 use mathlib.Core.Path.{sym, ◌∙◌}
 use lib.Dec.{lit≤}
-use borrow.Author.Rules.{rules}
 use Rattle.roster.specs.Roster.{levels}
 use Rattle.roster.proofs.Accepted.{levels-le}
 use Rattle.roster.proofs.levels.Goals as goal

@@ -2,7 +2,6 @@
 use mathlib.Core.Path.{ap, ◌∙◌}
 use Prim.Native.Nat.{ℕ}
 use native.Mathlib.Omega.{arith}
-use borrow.Author.Rules.{rules}
 use Rattle.lm_format.specs.Format.{height}
 use Rattle.roster.specs.Roster.{levels}
 use Rattle.roster.proofs.Accepted.{size_of_levels}

@@ -1,7 +1,6 @@
 -- The number is read in the key of the definition.
 use mathlib.Core.Path.{ap, ◌∙◌}
 use Rattle.roster.specs.Roster.{tree_type}
-use borrow.Author.Rules.{rules}
 use Rattle.roster.proofs.tree_type.Goals as goal
 
 pub returns : goal.returns

@@ -1,9 +1,8 @@
 -- One replica a turn: the replicas that are left give what all of them give.
 -- The loop of `roster_checks::keys::all_single` with another test, since a function cannot be handed one. What both argue stands in `roster/proofs/EveryReplica.antt`.
-use mathlib.Core.Path.{◌≡◌, refl}
-use Prim.Native.Nat.{◌≤◌}
+use mathlib.Core.Path.{refl}
 use native.Mathlib.Omega.{arith}
-use Rattle.roster.specs.Roster.{every_replica, typed}
+use Rattle.roster.specs.Roster.{typed}
 use Rattle.roster.proofs.EveryReplica.{fails, next, done}
 use mathlib.Core.Path.{ap}
 use mathlib.Core.Bool.{not}

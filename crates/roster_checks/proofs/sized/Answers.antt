@@ -7,7 +7,6 @@ use lib.ListN.{length}
 use Rattle.lm_format.specs.Format.{key_size}
 use Rattle.roster.specs.Roster.{head_size}
 use Rattle.roster_checks.proofs.Answers.{no-head, few-replicas, many-replicas, by_length}
-use borrow.Author.Rules.{rules}
 use Rattle.roster_checks.proofs.sized.Goals as goal
 
 pub returns-then-roster-lt-HEAD_SIZE : goal.returns-then-roster-lt-HEAD_SIZE

@@ -4,7 +4,6 @@ use Prim.Native.Nat.{ℕ}
 use lib.Dec.{eqb}
 use Rattle.roster.specs.Roster.{key_of, tree_type}
 use Rattle.roster_checks.proofs.Answers.{wrong-one-time, low-tree, high-tree, by_first}
-use borrow.Author.Rules.{rules}
 use Rattle.roster_checks.proofs.typed.Goals as goal
 
 pub returns-then-one_time_type-ne-ONE_TIME : goal.returns-then-one_time_type-ne-ONE_TIME

@@ -1,8 +1,6 @@
 -- Each check that is not met ends the validation with its number.
 use mathlib.Core.Path.{sym, ◌∙◌}
 use native.Mathlib.Omega.{arith}
-use borrow.Author.Rules.{rules}
-use borrow.Author.Tests.{not-true, not-false}
 use Rattle.roster_checks.proofs.Answers.{unsized, untyped, duplicate, accept}
 use Rattle.roster.proofs.Accepted.{sized-true}
 use Rattle.roster_checks.proofs.validate.Goals as goal

@@ -1,10 +1,10 @@
 -- One word a turn, read at its place.
 -- A loop that fills a buffer, with the needs of any such loop; the step that is its own is `parse_step`.
-use Prim.Native.Nat.{◌≤◌, ◌-◌, ◌*◌}
+use Prim.Native.Nat.{◌*◌}
 use mathlib.Core.Path.{◌≡◌, refl, sym, ◌∙◌}
 use native.Mathlib.Omega.{arith}
 use borrow.Author.Rules.{rules}
-use lib.ListN.{length, take, drop, length-set}
+use lib.ListN.{drop, length-set}
 use lib.Seq.{take_all}
 use Rattle.sha256.specs.Sha256.{parse}
 use Rattle.words.proofs.Laws.{number_at-drop}

@@ -1,6 +1,6 @@
 -- One word a turn: four bytes more are the next word's.
 -- A loop that fills a buffer, with the needs of any such loop; the step that is its own is `put_step`.
-use Prim.Native.Nat.{◌≤◌, ◌<◌, ◌-◌, ◌*◌}
+use Prim.Native.Nat.{◌<◌, ◌*◌}
 use mathlib.Core.Path.{◌≡◌, refl, sym, ap, ◌∙◌}
 use mathlib.Core.List.{flat_map}
 use native.Mathlib.Omega.{arith}

@@ -1,14 +1,10 @@
 -- One word a turn: four bytes more are the next word's.
 -- A loop that fills a buffer, with the needs of any such loop; the step that is its own is `put_step`.
-use Prim.Native.Nat.{◌≤◌, ◌<◌, ◌-◌, ◌*◌}
-use mathlib.Core.Path.{◌≡◌, refl, sym, ap, ◌∙◌}
+use Prim.Native.Nat.{◌≤◌, ◌-◌, ◌*◌}
+use mathlib.Core.Path.{◌≡◌}
 use mathlib.Core.List.{flat_map}
-use native.Mathlib.Omega.{arith}
-use borrow.Author.Rules.{rules}
-use lib.ListN.{length, get_or, take}
-use lib.Seq.{take_all, length-sets}
+use lib.ListN.{length, take}
 use Rattle.words.specs.BigEndian.{be}
-use Rattle.sha256.proofs.Output.{put_step}
 use Rattle.sha256.proofs.bytes_of.Given as goal
 
 abbrev pub invariant-loop-i : goal.invariant-loop-i

@@ -1,12 +1,10 @@
 -- One byte a turn where the zeros begin, and the byte 128 after the last.
 -- A loop that fills a buffer, with the needs of any such loop; the step that is its own is `fill_more`.
-use Prim.Native.Nat.{◌≤◌, ◌-◌}
 use mathlib.Core.Path.{◌≡◌, refl}
-use mathlib.Core.List.{◌++◌}
 use native.Mathlib.Nat.{le_refl}
 use native.Mathlib.Omega.{arith}
 use borrow.Author.Rules.{rules}
-use lib.ListN.{length, take, replicate}
+use lib.ListN.{length}
 use lib.Seq.{take-length}
 use Rattle.sha256.proofs.Padding.{fill_next, fill_more}
 use Rattle.sha256.proofs.closed.Goals as goal

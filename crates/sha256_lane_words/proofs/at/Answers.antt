@@ -1,7 +1,6 @@
 -- The four words as they stand.
 use mathlib.Core.Path.{refl}
 use native.Mathlib.Nat.{add-zero}
-use native.Mathlib.Omega.{arith}
 use Rattle.sha256_lane_words.specs.Lane.{lane, pick, place, word_in}
 use Rattle.sha256_lane_words.proofs.Each.{each}
 use Rattle.sha256_lane_words.proofs.at.Goals as goal

@@ -1,5 +1,4 @@
 -- The promise of each lane's call.
-use borrow.Author.Rules.{rules}
 use Rattle.sha256_lane_words.specs.Lane.{lane, pick}
 use Rattle.sha256_lane_words.proofs.Each.{each}
 use Rattle.sha256_lane_words.proofs.mix.Goals as goal

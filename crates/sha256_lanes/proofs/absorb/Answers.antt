@@ -1,6 +1,5 @@
 -- The four rounds that are shared, and the others.
 use mathlib.Core.Path.{ap, ◌∙◌, sym}
-use borrow.Author.Rules.{rules}
 use Rattle.sha256.specs.declared.State.{State}
 use Rattle.sha256.specs.Sha256.{plus, rounds, schedule, compress}
 use Rattle.sha256.proofs.Rounds.{rounds-add}

@@ -1,11 +1,8 @@
 -- One word of each lane a turn.
 use Prim.Native.Nat.{ℕ, ◌-◌, ◌≤◌, ◌<◌}
 use mathlib.Core.Path.{◌≡◌}
-use native.Mathlib.Omega.{arith}
 use lib.ListN.{length, get_or}
 use Rattle.sha256_lanes.specs.Lane.{Lane, pick, word_in}
-use Rattle.sha256_lane_words.proofs.Each.{picked}
-use Rattle.sha256_lane_words.proofs.Places.{filled_to}
 use Rattle.sha256_lanes.proofs.load.Given as goal
 
 abbrev pub invariant-loop-i : goal.invariant-loop-i

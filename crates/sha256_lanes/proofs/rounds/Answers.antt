@@ -1,11 +1,11 @@
 -- Two words of the schedule and two rounds a turn, in each lane.
-use Prim.Native.Nat.{ℕ, ◌+◌, ◌-◌, ◌%◌, ◌≤◌, ◌<◌}
+use Prim.Native.Nat.{ℕ, ◌+◌, ◌-◌, ◌<◌}
 use mathlib.Core.Path.{◌≡◌, refl, sym, ap, ◌∙◌}
 use mathlib.Core.List.{List}
 use native.Mathlib.Omega.{arith}
 use lib.ListN.{length, get_or}
 use Rattle.sha256.specs.Sha256.{schedule, rounds}
-use Rattle.sha256_lanes.specs.Lane.{Lane, state, word_in}
+use Rattle.sha256_lanes.specs.Lane.{state, word_in}
 use Rattle.sha256_lanes.proofs.Turns.{alike, block-word, round_turn}
 use Rattle.sha256_lanes.proofs.rounds.Goals as goal
 use Rattle.sha256_lanes.proofs.rounds.Goals.{then-i-ge-BLOCK_WORDS, else-i-ge-BLOCK_WORDS}

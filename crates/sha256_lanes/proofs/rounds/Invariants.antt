@@ -1,13 +1,10 @@
 -- Two words of the schedule and two rounds a turn, in each lane.
 use Prim.Native.Nat.{ℕ, ◌+◌, ◌-◌, ◌%◌, ◌≤◌, ◌<◌}
-use mathlib.Core.Path.{◌≡◌, refl, sym, ap, ◌∙◌}
+use mathlib.Core.Path.{◌≡◌}
 use mathlib.Core.List.{List}
-use mathlib.Core.Logic.{⊎_elim}
-use native.Mathlib.Omega.{arith}
 use lib.ListN.{length, get_or}
 use Rattle.sha256.specs.Sha256.{schedule, rounds}
 use Rattle.sha256_lanes.specs.Lane.{Lane, state, word_in}
-use Rattle.sha256_lanes.proofs.Turns.{alike, block-word, round_turn}
 use Rattle.sha256_lanes.proofs.rounds.Given as goal
 
 abbrev pub invariant-loop-i : goal.invariant-loop-i

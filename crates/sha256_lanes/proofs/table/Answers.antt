@@ -1,11 +1,8 @@
 -- One constant a turn.
-use Prim.Native.Nat.{ℕ, ◌-◌, ◌≤◌, ◌<◌}
-use mathlib.Core.Path.{◌≡◌, sym}
+use mathlib.Core.Path.{sym}
 use native.Mathlib.Omega.{arith}
 use borrow.Author.Rules.{rules}
-use lib.ListN.{length, get_or}
 use Rattle.sha256_tables.specs.Constants.{constants}
-use Rattle.sha256_lanes.specs.Lane.{Lane, word_in}
 use Rattle.sha256_lane_words.proofs.Places.{filled_to}
 use Rattle.sha256_lanes.proofs.table.Goals as goal
 

@@ -1,12 +1,9 @@
 -- One constant a turn.
 use Prim.Native.Nat.{ℕ, ◌-◌, ◌≤◌, ◌<◌}
-use mathlib.Core.Path.{◌≡◌, sym}
-use native.Mathlib.Omega.{arith}
-use borrow.Author.Rules.{rules}
+use mathlib.Core.Path.{◌≡◌}
 use lib.ListN.{length, get_or}
 use Rattle.sha256_tables.specs.Constants.{constants}
 use Rattle.sha256_lanes.specs.Lane.{Lane, word_in}
-use Rattle.sha256_lane_words.proofs.Places.{filled_to}
 use Rattle.sha256_lanes.proofs.table.Given as goal
 
 abbrev pub invariant-loop-i : goal.invariant-loop-i

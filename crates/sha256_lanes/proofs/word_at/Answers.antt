@@ -1,6 +1,5 @@
 -- The words before it, mixed and put.
 use mathlib.Core.Path.{◌∙◌}
-use native.Mathlib.Omega.{arith}
 use Rattle.sha256.specs.Sha256.{◌⊞◌, σ₀, σ₁}
 use Rattle.sha256_lanes.specs.Lane.{word_in, changed}
 use Rattle.sha256_lanes.proofs.word_at.Goals as goal

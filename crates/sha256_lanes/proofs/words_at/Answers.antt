@@ -1,11 +1,8 @@
 -- A word a turn.
-use Prim.Native.Nat.{ℕ, ◌+◌, ◌-◌, ◌≤◌, ◌<◌}
-use mathlib.Core.Path.{◌≡◌, refl}
-use mathlib.Core.List.{List}
+use Prim.Native.Nat.{◌+◌}
+use mathlib.Core.Path.{refl}
 use native.Mathlib.Omega.{arith}
-use lib.ListN.{length, get_or}
-use Rattle.sha256.specs.Sha256.{schedule}
-use Rattle.sha256_lanes.specs.Lane.{Lane, word_in}
+use Rattle.sha256_lanes.specs.Lane.{word_in}
 use Rattle.sha256_lanes.proofs.Turns.{word_turn}
 use Rattle.sha256_lanes.proofs.words_at.Goals as goal
 

@@ -1,7 +1,6 @@
 -- The loop copies the sixteen words; each of the six steps adds eight.
 -- A loop that fills a buffer, with the needs of any such loop; the step that is its own is `take-suc-set`.
-use Rattle.std.proofs.Common.{◌≡◌, ◌-◌, ◌<◌, ◌≤◌, length, get_or, take, sym, refl, ◌∙◌, add-one, arith, length-set, take_all, take-suc, take-suc-set, rules}
-use Rattle.sha256_schedule.specs.Words.{extend, schedule}
+use Rattle.std.proofs.Common.{◌≡◌, ◌-◌, ◌≤◌, length, take}
 use Rattle.sha256_schedule.proofs.schedule.Given as goal
 
 abbrev pub invariant-loop-i : goal.invariant-loop-i

@@ -1,5 +1,5 @@
 -- One word more: the law of the schedule's next word.
-use Rattle.std.proofs.Common.{arith, length-set, rules}
+use Rattle.std.proofs.Common.{arith, length-set}
 use Rattle.sha256_schedule.specs.Words.{next_word}
 use Rattle.sha256_schedule.proofs.Extend.{extend_step}
 use Rattle.sha256_schedule.proofs.word.Goals as goal

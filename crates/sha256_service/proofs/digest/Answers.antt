@@ -10,7 +10,6 @@ use Rattle.sha256.specs.declared.State.{State}
 use Rattle.sha256.specs.Sha256.{initial, hash, padding}
 use Rattle.sha256.specs.Service.{limit, too_long, digest_number, digest_after}
 use Rattle.sha256.proofs.Blocks.{sha256_split}
-use borrow.Author.Rules.{rules}
 use Rattle.sha256_service.proofs.digest.Goals as goal
 
 -- a long message: number 16, and the buffer as it was

@@ -22,7 +22,7 @@ pub returns-then-not-leaders : goal.returns-then-not-leaders
 unfolding leader_checks
 returns-then-not-leaders c =
     let led = asked_leading _ _ _ _ c.replicas-n.ensures.0 c.leaders_match_log-leaders.ensures.holds in
-    refuses _ _ _ (omega arith) c.refused.ensures (refused 13 _ _ (unmet led (ap not c.if-not-leaders.true)))
+    refuses _ _ _ (omega arith) c.refused.ensures (refused 13 _ _ (unmet led c.if-not-leaders.true))
 
 pub index_within_log-requires : goal.index_within_log-requires
 index_within_log-requires c = c.requires.laid.known
@@ -32,13 +32,13 @@ unfolding leader_checks
 returns-then-not-index_within_log c =
     let led = asked_leading _ _ _ _ c.replicas-n.ensures.0 c.leaders_match_log-leaders.ensures.holds in
     refuses _ _ _ (omega arith) c.refused-then-not-index_within_log.ensures
-    (passed 13 _ _ (met led (ap not c.if-not-leaders.false)) ∙ refused 14 _ _ (unmet c.index_within_log.ensures (ap not c.if-not-index_within_log.true)))
+    (passed 13 _ _ (met led c.if-not-leaders.false) ∙ refused 14 _ _ (unmet c.index_within_log.ensures (ap not c.if-not-index_within_log.true)))
 
 pub all_signatures_good-requires : goal.all_signatures_good-requires
 all_signatures_good-requires c =
     let led = asked_leading _ _ _ _ c.replicas-n.ensures.0 c.leaders_match_log-leaders.ensures.holds in (
-      record { counted = c.requires; leaders = met led (ap not c.if-not-leaders.false); commit = met c.index_within_log.ensures (ap not c.if-not-index_within_log.false) },
-      pointers-met c.leaders_match_log-leaders.result.holds _ _ _ (c.if-not-leaders.false) c.leaders_match_log-leaders.ensures.pointers,
+      record { counted = c.requires; leaders = met led c.if-not-leaders.false; commit = met c.index_within_log.ensures (ap not c.if-not-index_within_log.false) },
+      pointers-met c.leaders_match_log-leaders.result.holds _ _ _ (not-false _ c.if-not-leaders.false) c.leaders_match_log-leaders.ensures.pointers,
     )
 
 pub returns-then-not-all_signatures_good : goal.returns-then-not-all_signatures_good
@@ -46,10 +46,13 @@ unfolding leader_checks
 returns-then-not-all_signatures_good c =
     let led = asked_leading _ _ _ _ c.replicas-n.ensures.0 c.leaders_match_log-leaders.ensures.holds in
     refuses _ _ _ (omega arith) c.refused-then-not-all_signatures_good.ensures
-    (passed 13 _ _ (met led (ap not c.if-not-leaders.false)) ∙ passed 14 _ _ (met c.index_within_log.ensures (ap not c.if-not-index_within_log.false))
+    (passed 13 _ _ (met led c.if-not-leaders.false) ∙ passed 14 _ _ (met c.index_within_log.ensures (ap not c.if-not-index_within_log.false))
     ∙ refused 15 _ _ (unmet c.all_signatures_good.ensures (ap not c.if-not-all_signatures_good.true)))
 
 pub returns : goal.returns
 returns c =
-    let led = asked_leading _ _ _ _ c.replicas-n.ensures.0 c.leaders_match_log-leaders.ensures.holds in record { number = leaders_passed _ _ _ _ (met led (ap not c.if-not-leaders.false)) (met c.index_within_log.ensures (ap not c.if-not-index_within_log.false))
-          (met c.all_signatures_good.ensures (ap not c.if-not-all_signatures_good.false)); pointers = pointers-met c.leaders_match_log-leaders.result.holds _ _ _ (c.if-not-leaders.false) c.leaders_match_log-leaders.ensures.pointers }
+    let led = asked_leading _ _ _ _ c.replicas-n.ensures.0 c.leaders_match_log-leaders.ensures.holds in record {
+      number = leaders_passed _ _ _ _ (met led c.if-not-leaders.false) (met c.index_within_log.ensures (ap not c.if-not-index_within_log.false))
+          (met c.all_signatures_good.ensures (ap not c.if-not-all_signatures_good.false));
+      pointers = pointers-met c.leaders_match_log-leaders.result.holds _ _ _ (not-false _ c.if-not-leaders.false) c.leaders_match_log-leaders.ensures.pointers;
+    }

@@ -55,4 +55,4 @@ unfolding part_checks shape_of
 returns c =
     let asked = rw c.replicas-n.ensures.0 at c.all_signers_quorate.ensures in
     let validated = rw c.shape_of.ensures at c.validate_log.ensures in
-    record { number = validated.0 ∙ sym (passed 9 _ _ (met c.parts_laid_out.ensures (ap not c.if-not-parts_laid_out.false)) ∙ passed 10 _ _ (met asked (ap not c.if-not-all_signers_quorate.false))); pointers = validated.1 }
+    record { number = validated.number ∙ sym (passed 9 _ _ (met c.parts_laid_out.ensures (ap not c.if-not-parts_laid_out.false)) ∙ passed 10 _ _ (met asked (ap not c.if-not-all_signers_quorate.false))); pointers = validated.pointers }

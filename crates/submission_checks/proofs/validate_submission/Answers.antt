@@ -2,7 +2,6 @@
 use mathlib.Core.Path.{refl, ◌∙◌}
 use mathlib.Core.List.{[]}
 use native.Mathlib.Omega.{arith}
-use borrow.Author.Rules.{rules}
 use lib.Dec.{lit≤}
 use Rattle.refusal.proofs.Laws.{passed, refused, met, unmet}
 use Rattle.roster.proofs.Accepted.{sizes, signature-bounds}
@@ -71,5 +70,8 @@ pub returns : goal.returns
 unfolding form_of version1 view_of
 returns c =
     let a = c.args in
-    let validated = rw c.signature_size-size.ensures.0 at c.validate_parts.ensures in record { number = trailer_passed a.roster.now a.s.now (met c.size_in_range.ensures (ap not c.if-not-size_in_range.false)) (met c.version_known.ensures (ap not c.if-not-version_known.false))
-          (met c.name_matches.ensures (ap not c.if-not-name_matches.false)) (met c.counts_in_range.ensures (ap not c.if-not-counts_in_range.false)) validated.0; pointers = form_hands (with_terms 4 []) (form_of a.roster.now) (view_of a.roster.now a.s.now) c.validate_parts.result refl validated.1 }
+    let validated = rw c.signature_size-size.ensures.0 at c.validate_parts.ensures in record {
+      number = trailer_passed a.roster.now a.s.now (met c.size_in_range.ensures (ap not c.if-not-size_in_range.false)) (met c.version_known.ensures (ap not c.if-not-version_known.false))
+          (met c.name_matches.ensures (ap not c.if-not-name_matches.false)) (met c.counts_in_range.ensures (ap not c.if-not-counts_in_range.false)) validated.number;
+      pointers = form_hands (with_terms 4 []) (form_of a.roster.now) (view_of a.roster.now a.s.now) c.validate_parts.result refl validated.pointers;
+    }

@@ -7,7 +7,6 @@ use lib.ListN.{length-set}
 use lib.Seq.{sets}
 use Rattle.submission_leaves.specs.Entries.{entry_size}
 use Rattle.submission_leaves.proofs.Entries.{entry_added}
-use borrow.Author.Rules.{rules}
 use Rattle.submission_leaves.proofs.add_use.Goals as goal
 
 pub put_bytes-requires : goal.put_bytes-requires
@@ -23,6 +22,9 @@ shape_of-buffer c =
 pub returns : goal.returns
 returns c =
     let a = c.args in
-    let at = entry_size * a.n in record { count = refl; uses = entry_added a.n a.leaf a.size a.buffer.now _ a.statement.now (omega arith) c.requires.0 c.requires.2
+    let at = entry_size * a.n in record {
+      count = refl;
+      uses = entry_added a.n a.leaf a.size a.buffer.now _ a.statement.now (omega arith) c.requires.0 c.requires.2
           (c.put_bytes.ensures
-          ∙ ap (λ (z : List ℕ). sets (sets z (at + 4) (a.size ∷ [])) (at + 4 + 1) a.statement.now) c.put_u32.ensures) }
+          ∙ ap (λ (z : List ℕ). sets (sets z (at + 4) (a.size ∷ [])) (at + 4 + 1) a.statement.now) c.put_u32.ensures);
+    }

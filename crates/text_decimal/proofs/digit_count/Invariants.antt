@@ -1,11 +1,8 @@
 -- A turn for each digit but the first: a number of ten or more has one digit more than a tenth of it.
 use mathlib.Core.Path.{◌≡◌}
 use Prim.Native.Nat.{◌+◌, ◌<◌}
-use native.Mathlib.Omega.{arith}
-use borrow.Author.Rules.{rules}
 use lib.ListN.{length}
 use Rattle.text_decimal.specs.Decimal.{decimal}
-use Rattle.text_decimal.proofs.Decimal.{length_low, length_high, length_ten, length-pos}
 use Rattle.text_decimal.proofs.digit_count.Given as goal
 
 abbrev pub invariant-loop-rest : goal.invariant-loop-rest

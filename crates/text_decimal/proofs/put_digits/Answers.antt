@@ -1,11 +1,8 @@
 -- What is left to put, put into the buffer as it is, gives the buffer asked.
-use mathlib.Core.Path.{◌≡◌, refl, ◌∙◌}
-use Prim.Native.Nat.{◌≤◌}
+use mathlib.Core.Path.{refl, ◌∙◌}
 use native.Mathlib.Omega.{arith}
 use borrow.Author.Rules.{rules}
-use lib.ListN.{length, length-set}
-use lib.Seq.{sets}
-use Rattle.text_decimal.specs.Decimal.{decimal}
+use lib.ListN.{length-set}
 use Rattle.text_decimal.proofs.Decimal.{length_high, length-pos}
 use Rattle.text_decimal.proofs.Puts.{digit_step, digit_first}
 use Rattle.text_decimal.proofs.put_digits.Goals as goal

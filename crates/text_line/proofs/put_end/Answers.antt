@@ -1,7 +1,6 @@
 -- One byte, and the place after it.
 use mathlib.Core.Path.{refl}
 use native.Mathlib.Nat.{le_refl}
-use borrow.Author.Rules.{rules}
 use Rattle.text_line.proofs.put_end.Goals as goal
 
 pub returns : goal.returns

@@ -2,7 +2,6 @@
 use mathlib.Core.Path.{refl}
 use Prim.Native.Nat.{◌+◌}
 use native.Mathlib.Nat.{le_refl}
-use borrow.Author.Rules.{rules}
 use lib.ListN.{length}
 use Rattle.text_decimal.specs.Put.{Put}
 use Rattle.text_decimal.proofs.Puts.{put_then}

@@ -1,5 +1,4 @@
 -- A word with its number, the last of the line.
-use borrow.Author.Rules.{rules}
 use Rattle.text_line.specs.Texts.{ascii, fork_line}
 use Rattle.text_line.proofs.put_fork.Goals as goal
 

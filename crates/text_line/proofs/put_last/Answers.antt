@@ -1,5 +1,4 @@
 -- A word with its number, then the end of the line.
-use borrow.Author.Rules.{rules}
 use Rattle.text_decimal.proofs.Puts.{put_then}
 use Rattle.text_line.proofs.put_last.Goals as goal
 

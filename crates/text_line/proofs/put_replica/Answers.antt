@@ -1,7 +1,6 @@
 -- Three words with their numbers.
 use mathlib.Core.Path.{sym}
 use mathlib.Core.List.{◌++◌, append_assoc}
-use borrow.Author.Rules.{rules}
 use Rattle.text_decimal.specs.Decimal.{decimal}
 use Rattle.text_decimal.proofs.Puts.{put_then, put_same}
 use Rattle.text_line.specs.Texts.{ascii, replica_line}

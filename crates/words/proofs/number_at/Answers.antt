@@ -1,9 +1,8 @@
 -- One byte a turn, highest first: the value so far is the number of the bytes read.
 use mathlib.Core.Path.{◌≡◌, sym, ap, ◌∙◌}
-use Prim.Native.Nat.{ℕ, suc, ◌+◌, ◌-◌, ◌*◌, ◌^◌, ◌≤◌, ◌<◌}
+use Prim.Native.Nat.{ℕ, suc, ◌+◌, ◌*◌, ◌≤◌}
 use native.Mathlib.Numerals.{add-one}
 use native.Mathlib.Omega.{arith}
-use borrow.Author.Rules.{rules}
 use lib.Dec.{lit<}
 use Rattle.words.specs.BigEndian.{number_at}
 use Rattle.words.proofs.Laws.{number_at-zero, number_at_more, number_step, number-room}

@@ -1,6 +1,6 @@
 -- One byte a turn.
 -- A loop that fills a buffer, with the needs of any such loop; the step that is its own is `sets_more`.
-use Prim.Native.Nat.{◌≤◌, ◌<◌, ◌-◌}
+use Prim.Native.Nat.{◌<◌}
 use mathlib.Core.Path.{◌≡◌, refl, ap, ◌∙◌}
 use native.Mathlib.Omega.{arith}
 use borrow.Author.Rules.{rules}

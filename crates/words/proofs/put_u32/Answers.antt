@@ -4,7 +4,6 @@ use native.Mathlib.Numerals.{towards_suc}
 use Rattle.words.specs.BigEndian.{be}
 use native.Mathlib.Omega.{arith}
 use lib.ListN.{length-set}
-use borrow.Author.Rules.{rules}
 use Rattle.words.proofs.put_u32.Goals as goal
 
 pub bounds-out-at-2 : goal.bounds-out-at-2

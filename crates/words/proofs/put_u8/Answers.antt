@@ -1,6 +1,5 @@
 -- The byte is the definition's.
 use native.Mathlib.Nat.{div-one}
-use borrow.Author.Rules.{rules}
 use Rattle.words.specs.BigEndian.{be}
 use Rattle.words.proofs.put_u8.Goals as goal
 

@@ -1,7 +1,6 @@
 -- The bytes read are those of the definition, each times its place.
 use native.Mathlib.Omega.{arith}
 use Rattle.words.proofs.Laws.{number_at-2}
-use borrow.Author.Rules.{rules}
 use Rattle.words.proofs.u16_at.Goals as goal
 
 pub returns : goal.returns

@@ -2,7 +2,6 @@
 use mathlib.Core.Path.{refl}
 use native.Mathlib.Nat.{mod-lt, div-le_self}
 use native.Mathlib.Omega.{arith}
-use borrow.Author.Rules.{rules}
 use lib.Pow.{pow_pos}
 use Rattle.lm_digits.specs.Digits.{coef}
 use Rattle.lm_digits.proofs.Widths.{width-pos, each-pos, width-le, shifted_one, digit-ends, digit-byte}

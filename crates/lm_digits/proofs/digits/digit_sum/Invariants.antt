@@ -1,12 +1,7 @@
 -- One digit a turn, and the sum of at most 265 digits fits.
 use Prim.Native.Nat.{◌-◌, ◌≤◌}
-use mathlib.Core.Path.{◌≡◌, ap, ◌∙◌}
-use native.Mathlib.Numerals.{add-one}
-use native.Mathlib.Omega.{arith}
-use lib.Pow.{pow_pos}
-use Rattle.lm_digits.specs.Digits.{to_largest, sum}
-use Rattle.lm_digits.proofs.Widths.{width-le, pow-le, shifted_one}
-use Rattle.lm_digits.proofs.Figures.{sum_small}
+use mathlib.Core.Path.{◌≡◌}
+use Rattle.lm_digits.specs.Digits.{sum}
 use Rattle.lm_digits.proofs.digits.digit_sum.Given as goal
 
 abbrev pub invariant-loop-i : goal.invariant-loop-i

@@ -1,14 +1,7 @@
 -- The bytes are copied one a turn, and the checksum's lowest two stored after them.
-use Prim.Native.Nat.{ℕ, ◌+◌, ◌-◌, ◌/◌, ◌%◌, ◌≤◌, ◌<◌}
-use mathlib.Core.Path.{◌≡◌, refl, sym, ap, ◌∙◌}
-use mathlib.Core.List.{append-nil}
-use native.Mathlib.Numerals.{add-one}
-use native.Mathlib.Omega.{arith}
-use borrow.Author.Rules.{rules}
-use lib.ListN.{length, get_or, take, length-set, drop_of_length-le}
-use lib.Seq.{take-suc, take-suc-set, take_all, sets, sets-eq}
-use Rattle.words.specs.BigEndian.{be}
-use Rattle.words.proofs.Laws.{length-be}
+use Prim.Native.Nat.{◌-◌, ◌≤◌}
+use mathlib.Core.Path.{◌≡◌}
+use lib.ListN.{length, take}
 use Rattle.lm_digits.proofs.digits.join_checksum.Given as goal
 
 abbrev pub invariant-loop-i : goal.invariant-loop-i

@@ -1,7 +1,6 @@
 -- The quotient is appendix B's, and at most 256.
 use mathlib.Core.Path.{refl}
 use native.Mathlib.Omega.{arith}
-use borrow.Author.Rules.{rules}
 use Rattle.lm_digits.specs.Parameters.{message_digits}
 use Rattle.lm_digits.proofs.Widths.{width-pos, message-few}
 use Rattle.lm_digits.proofs.digits.message_digits.Goals as goal

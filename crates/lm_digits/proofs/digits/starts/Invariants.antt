@@ -1,13 +1,8 @@
 -- One digit a turn.
 use Prim.Native.Nat.{ℕ, ◌-◌, ◌^◌, ◌≤◌, ◌<◌}
-use mathlib.Core.Path.{◌≡◌, refl, ◌∙◌}
-use native.Mathlib.Omega.{arith}
-use lib.ListN.{length, get_or, set, length-set}
-use lib.Seq.{get_or-set_same, get_or-set_other}
+use mathlib.Core.Path.{◌≡◌}
+use lib.ListN.{length, get_or}
 use Rattle.lm_digits.specs.Digits.{coef}
-use lib.Pow.{pow_pos}
-use Rattle.lm_digits.proofs.Counting.{one_more, all_set, all-zero}
-use Rattle.lm_digits.proofs.Figures.{digit_lt}
 use Rattle.lm_digits.proofs.digits.starts.Given as goal
 
 abbrev pub invariant-loop-i : goal.invariant-loop-i

@@ -3,7 +3,6 @@ use mathlib.Core.Path.{sym}
 use native.Mathlib.Omega.{arith}
 use lib.ListN.{get_or-append}
 use Rattle.lm_hash.proofs.Heads.{get_or-second, get_d_past}
-use borrow.Author.Rules.{rules}
 use Rattle.lm_hash.proofs.message.byte_at.Goals as goal
 
 pub returns-then-i-head : goal.returns-then-i-head

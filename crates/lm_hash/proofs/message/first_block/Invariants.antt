@@ -1,13 +1,9 @@
 -- One byte a turn.
 -- A loop that fills a buffer, with the needs of any such loop; the step that is its own is `block_step`.
 use Prim.Native.Nat.{◌≤◌, ◌-◌}
-use mathlib.Core.Path.{◌≡◌, refl, sym, ◌∙◌}
+use mathlib.Core.Path.{◌≡◌}
 use mathlib.Core.List.{◌++◌}
-use native.Mathlib.Omega.{arith}
-use borrow.Author.Rules.{rules}
-use lib.ListN.{length, take, replicate, length-set}
-use lib.Seq.{take_all}
-use Rattle.lm_hash.proofs.Heads.{block_step}
+use lib.ListN.{length, take, replicate}
 use Rattle.lm_hash.proofs.message.first_block.Given as goal
 
 abbrev pub invariant-loop-i : goal.invariant-loop-i

@@ -1,14 +1,8 @@
 -- One end a turn, after the ones before it.
 use Prim.Native.Nat.{◌-◌, ◌*◌, ◌≤◌}
-use mathlib.Core.Path.{◌≡◌, refl, sym, ◌∙◌}
-use native.Mathlib.Omega.{arith}
+use mathlib.Core.Path.{◌≡◌}
 use lib.ListN.{length, take}
-use lib.Seq.{length-sets}
-use Rattle.sha256.specs.Sha256.{bytes_of}
-use Rattle.lm_hash.specs.Identifier.{identifier}
-use Rattle.lm_hash.proofs.Values.{length-bytes}
-use Rattle.lm_ots.proofs.Rows.{few, joined, joined_step, joined-ends}
-use borrow.Author.Rules.{rules}
+use Rattle.lm_ots.proofs.Rows.{joined}
 use Rattle.lm_ots.proofs.candidate.put_ends.Given as goal
 
 abbrev pub invariant-loop-i : goal.invariant-loop-i

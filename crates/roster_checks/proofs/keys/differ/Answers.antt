@@ -6,7 +6,6 @@ use Prim.Native.Nat.{ℕ}
 use Rattle.words.specs.BigEndian.{same}
 use Rattle.words.proofs.Same.{same_test}
 use Rattle.roster.specs.Roster.{key_of}
-use borrow.Author.Rules.{rules}
 use Rattle.roster_checks.proofs.keys.differ.Goals as goal
 
 pub returns : goal.returns

@@ -1,11 +1,8 @@
 -- One replica a turn: the replicas that are left give what all before k give.
-use mathlib.Core.Path.{◌≡◌, refl}
-use mathlib.Core.Bool.{Bool, not}
-use mathlib.Core.List.{List}
-use Prim.Native.Nat.{ℕ, ◌≤◌, ◌-◌}
+use mathlib.Core.Path.{refl}
+use mathlib.Core.Bool.{not}
 use native.Mathlib.Omega.{arith}
-use Rattle.words.specs.BigEndian.{same}
-use Rattle.roster.specs.Roster.{key_of, every_replica, single}
+use Rattle.roster.specs.Roster.{single}
 use Rattle.roster.proofs.EveryReplica.{fails, next, done}
 use mathlib.Core.Path.{ap}
 use Rattle.roster_checks.proofs.keys.single.Invariants.{other}

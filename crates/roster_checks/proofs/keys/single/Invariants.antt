@@ -1,12 +1,10 @@
 -- One replica a turn: the replicas that are left give what all before k give.
-use mathlib.Core.Path.{◌≡◌, refl}
+use mathlib.Core.Path.{◌≡◌}
 use mathlib.Core.Bool.{Bool, not}
 use mathlib.Core.List.{List}
 use Prim.Native.Nat.{ℕ, ◌≤◌, ◌-◌}
-use native.Mathlib.Omega.{arith}
 use Rattle.words.specs.BigEndian.{same}
 use Rattle.roster.specs.Roster.{key_of, every_replica, single}
-use Rattle.roster.proofs.EveryReplica.{fails, next, done}
 use Rattle.roster_checks.proofs.keys.single.Given as goal
 
 -- replica j's key is not k's

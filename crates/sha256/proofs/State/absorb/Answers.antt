@@ -2,7 +2,6 @@
 use mathlib.Core.Path.{refl}
 use Rattle.sha256_tables.specs.Constants.{constants}
 use Rattle.sha256.specs.Sha256.{compress}
-use borrow.Author.Rules.{rules}
 use Rattle.sha256.proofs.State.absorb.Goals as goal
 
 -- the code's table is the definition's

@@ -1,9 +1,7 @@
 -- One block a turn: the blocks that are left give what all of them give.
 -- A loop that counts down, with the needs of any such loop; the step that is its own is `blocks-first`.
-use Prim.Native.Nat.{◌≤◌, ◌+◌, ◌*◌}
 use mathlib.Core.Path.{◌≡◌, refl}
 use native.Mathlib.Omega.{arith}
-use lib.ListN.{length, drop}
 use Rattle.sha256.specs.Sha256.{blocks, hash}
 use Rattle.sha256.proofs.Blocks.{blocks-first}
 use Rattle.sha256.proofs.State.absorb_all.Goals as goal

@@ -1,6 +1,5 @@
 -- The fields in order are the hash value's words.
 use Rattle.sha256.specs.Sha256.{bytes_of, words_of}
-use borrow.Author.Rules.{rules}
 use Rattle.sha256.proofs.State.bytes.Goals as goal
 
 pub returns : goal.returns

@@ -2,7 +2,6 @@
 use mathlib.Core.Path.{sym}
 use native.Mathlib.Omega.{arith}
 use Rattle.sha256.proofs.Padding.{one_block, two_blocks}
-use borrow.Author.Rules.{rules}
 use Rattle.sha256.proofs.State.finish.Goals as goal
 
 pub returns-then-tail-lt56 : goal.returns-then-tail-lt56

@@ -1,7 +1,6 @@
 -- Each call's promise, put together.
 -- Eight calls, so that the needs are listed as in a group of rounds; what they show is not the same.
 use Rattle.sha256.specs.Sha256.{plus}
-use borrow.Author.Rules.{rules}
 use Rattle.sha256.proofs.State.plus.Goals as goal
 
 pub returns : goal.returns

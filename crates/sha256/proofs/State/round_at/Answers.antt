@@ -1,6 +1,5 @@
 -- One round with the constant and the word at a place.
 use Rattle.sha256.specs.Sha256.{rounds}
-use borrow.Author.Rules.{rules}
 use Rattle.sha256.proofs.State.round_at.Goals as goal
 
 pub returns : goal.returns

@@ -1,6 +1,5 @@
 -- Each call's promise, put together.
 use Rattle.sha256.specs.Sha256.{round}
-use borrow.Author.Rules.{rules}
 use Rattle.sha256.proofs.State.round_from.Goals as goal
 
 pub returns : goal.returns

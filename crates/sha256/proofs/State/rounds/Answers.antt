@@ -2,7 +2,6 @@
 -- Eight calls, so that the needs are listed as in each group; the argument is `rounds_eights`.
 use Rattle.sha256.proofs.Rounds.{rounds_eights}
 use mathlib.Core.Path.{sym}
-use borrow.Author.Rules.{rules}
 use Rattle.sha256.proofs.State.rounds.Goals as goal
 
 pub returns : goal.returns

@@ -1,7 +1,6 @@
 -- Eight rounds, one after the other.
 -- One of eight groups of one shape, which src/lib.rt has a reason for.
 use Rattle.sha256.specs.Sha256.{rounds}
-use borrow.Author.Rules.{rules}
 use Rattle.sha256.proofs.State.rounds_0.Goals as goal
 
 pub returns : goal.returns

@@ -1,6 +1,5 @@
 -- Each call's promise, put together.
 use Rattle.sha256.specs.Sha256.{temp₁}
-use borrow.Author.Rules.{rules}
 use Rattle.sha256.proofs.State.temp1.Goals as goal
 
 pub returns : goal.returns

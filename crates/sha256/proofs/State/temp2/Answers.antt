@@ -1,6 +1,5 @@
 -- Each call's promise, put together.
 use Rattle.sha256.specs.Sha256.{temp₂}
-use borrow.Author.Rules.{rules}
 use Rattle.sha256.proofs.State.temp2.Goals as goal
 
 pub returns : goal.returns

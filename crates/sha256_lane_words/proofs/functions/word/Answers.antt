@@ -1,6 +1,5 @@
 -- Each call's promise, put together.
 -- Three calls of functions on words, with the needs of any three.
-use borrow.Author.Rules.{rules}
 use Rattle.sha256_lane_words.proofs.functions.word.Goals as goal
 
 pub returns : goal.returns

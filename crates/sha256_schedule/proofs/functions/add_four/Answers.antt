@@ -1,6 +1,5 @@
 -- Each call's promise, put together.
 -- Three calls of functions on words, with the needs of any three.
-use Rattle.std.proofs.Common.{rules}
 use Rattle.sha256_schedule.proofs.functions.add_four.Goals as goal
 
 pub returns : goal.returns

@@ -1,0 +1,31 @@
+-- One submission after the other: what has been judged is the first i, and where the next begins is what their lengths add up to.
+use mathlib.Core.Path.{◌≡◌, refl, sym, ap, ◌∙◌}
+use mathlib.Core.List.Memᴰ
+use mathlib.Core.List.{map, flat_map, Memᴰ, sum}
+use Prim.Native.Nat.{ℕ, suc, ◌+◌, ◌-◌, ◌≤◌, ◌<◌}
+use native.Mathlib.Omega.{arith}
+use borrow.Author.Rules.{rules}
+use lib.ListN.{length, take, drop, get_or}
+use lib.Seq.{take_all, sets, length-sets}
+use Rattle.words.specs.BigEndian.{be}
+use Rattle.words.specs.Over.{over}
+use Rattle.submission.specs.Validate.{form_of, view_of, validate}
+use Rattle.submission_checks.specs.Pointers.{PointersHanded}
+use Rattle.district_parts.specs.Parts.{parts, total, count_most}
+use Rattle.district_parts.proofs.Parts.{parts-length, sum_next, counted-most}
+use Rattle.district.specs.District.{accepted_from, accepted, number_bytes}
+use Rattle.district_pairs.specs.declared.Part.{Part}
+use Rattle.district_pairs.specs.Entries.{entry_of, parts_of, entries_of, Fit, Room}
+use Rattle.words.proofs.Laws.{part_from}
+use Rattle.audit_district.proofs.Judged.{this, room_of, number_put, entries_next, fits_next}
+use Rattle.audit_district.proofs.judge.Given as goal
+
+abbrev pub invariant-loop-i : goal.invariant-loop-i
+invariant-loop-i l =
+    (l.i ≤ length l.lengths) × (l.at ≡ total (take l.i l.lengths)) × (length l.report ≡ length l.initial.report)
+    × (l.report ≡ over (number_bytes l.roster (take l.i (parts l.lengths l.buffer))) l.initial.report)
+    × (entries_of l.buffer l.entries ≡ accepted_from l.roster 1 (take l.i (parts l.lengths l.buffer)))
+    × Room l.i l.entries × ((p : Part) → Memᴰ p (parts_of l.entries) → Fit l.roster l.buffer p)
+
+abbrev pub decreases-loop-i : goal.decreases-loop-i
+decreases-loop-i l = length l.lengths - l.i
