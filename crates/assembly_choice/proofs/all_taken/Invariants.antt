@@ -1,13 +1,9 @@
 -- One row a turn: those that are left give what all of them give.
-use mathlib.Core.Path.{◌≡◌, sym, ◌∙◌}
+use mathlib.Core.Path.{◌≡◌}
 use Prim.Native.Nat.{◌-◌, ◌*◌, ◌≤◌}
-use native.Mathlib.Nat.{sub-zero}
-use native.Mathlib.Omega.{arith}
-use borrow.Author.Rules.{rules}
 use lib.ListN.{drop}
 use Rattle.assembly_copies.specs.Rows.{taken_size}
 use Rattle.assembly_choice.specs.Settled.{all_taken}
-use Rattle.assembly_choice.proofs.Rows.{taken_none, taken_next}
 use Rattle.assembly_choice.proofs.all_taken.Given as goal
 
 abbrev pub invariant-loop-t : goal.invariant-loop-t

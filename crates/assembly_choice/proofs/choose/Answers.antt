@@ -2,7 +2,6 @@
 use mathlib.Core.Path.{◌≡◌, sym, ◌∙◌}
 use Prim.Native.Nat.{ℕ, ◌*◌, ◌≤◌}
 use native.Mathlib.Omega.{arith}
-use borrow.Author.Rules.{rules}
 use lib.ListN.{length, length-replicate}
 use Rattle.roster.specs.Roster.{replicas}
 use Rattle.roster.specs.Sizes.{replicas_most}
@@ -49,7 +48,12 @@ shape_of-taken c =
 pub returns : goal.returns
 returns c =
     let done = c.try_all.ensures in
-    let a = c.args in record { leaders = leaders-chosen a.roster.now a.items.now a.terms a.votes.now a.stamps.now _ _ c.all_taken.ensures
+    let a = c.args in record {
+      leaders = leaders-chosen a.roster.now a.items.now a.terms a.votes.now a.stamps.now _ _ c.all_taken.ensures
           (λ rs all votes stamps.
           done.tried rs all votes (c.find_stamps.ensures.stamps rs all stamps)
-          (tried-none a.roster.now a.items.now a.terms rs c.clear.new.rows c.clear.ensures.empty)); held = done.held; votes = done.votes; rooms = (done.rooms.0, done.rooms.1 ∙ c.clear.ensures.room) }
+          (tried-none a.roster.now a.items.now a.terms rs c.clear.new.rows c.clear.ensures.empty));
+      held = done.held;
+      votes = done.votes;
+      rooms = (done.rooms.0, done.rooms.1 ∙ c.clear.ensures.room);
+    }

@@ -1,6 +1,5 @@
 -- One walk over the bag; what it finds for each statement is what a term's stamps are.
 use native.Mathlib.Omega.{arith}
-use borrow.Author.Rules.{rules}
 use lib.ListN.{length}
 use Rattle.assembly_terms.specs.Wanted.{stamp_head, stamp_tail}
 use Rattle.assembly_choice.proofs.Found.{fewer_terms_inside, stamps-placed}

@@ -2,7 +2,6 @@
 use mathlib.Core.Path.{ap, ◌∙◌}
 use Prim.Native.Nat.{◌≤◌}
 use native.Mathlib.Omega.{arith}
-use borrow.Author.Rules.{rules}
 use lib.ListN.{length}
 use lib.Seq.{length-sets}
 use Rattle.words.specs.BigEndian.{be}
@@ -45,6 +44,10 @@ returns c =
     let found = c.find_copies in
     let a = c.args in
     let kept = ap length c.put_u16.ensures ∙ length-sets a.votes.now 17 (be 2 a.candidate) in
-    let copies = rw c.vote_tail.ensures.0 at found.ensures.copies in record { votes = λ rs last all wanted.
+    let copies = rw c.vote_tail.ensures.0 at found.ensures.copies in record {
+      votes = λ rs last all wanted.
           let named = votes-for a.roster.now a.items.now a.terms c.requires.0.fine rs all last a.candidate a.votes.now _ c.put_u16.ensures wanted in
-          (named, votes-placed a.roster.now a.items.now a.terms c.requires.0.fine rs all a.candidate c.put_u16.new.out _ copies named); placed = found.ensures.placed; rooms = (kept, found.ensures.room) }
+          (named, votes-placed a.roster.now a.items.now a.terms c.requires.0.fine rs all a.candidate c.put_u16.new.out _ copies named);
+      placed = found.ensures.placed;
+      rooms = (kept, found.ensures.room);
+    }

@@ -1,6 +1,5 @@
 -- The three tests in order; each answer is the definition's.
 use native.Mathlib.Omega.{arith}
-use borrow.Author.Rules.{rules}
 use borrow.Author.Tests.{le-leb, lt-leb}
 use lib.Count.{ones}
 use Rattle.refusal.proofs.Laws.{first_fails, first_holds, all_one, met, unmet}

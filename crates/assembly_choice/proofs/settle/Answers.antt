@@ -1,14 +1,12 @@
 -- One term a turn: the rows passed are settled, the others as they were.
 use mathlib.Core.Path.{◌≡◌, refl, sym, ap, ◌∙◌}
-use Prim.Native.Nat.{◌-◌, ◌*◌, ◌≤◌}
+use Prim.Native.Nat.{◌*◌, ◌≤◌}
 use native.Mathlib.Omega.{arith}
-use borrow.Author.Rules.{rules}
 use lib.ListN.{length, drop, length-drop}
 use lib.Seq.{length-sets}
 use Rattle.words.proofs.Laws.{part_end}
 use Rattle.roster.specs.Sizes.{replicas_most}
-use Rattle.assembly_choice.specs.Settled.{Settled}
-use Rattle.assembly_choice.proofs.Settling.{Kept, settled_none, settled-put, settled-left}
+use Rattle.assembly_choice.proofs.Settling.{settled_none, settled-put, settled-left}
 use Rattle.assembly_choice.proofs.settle.Goals as goal
 
 pub loop-t-init : goal.loop-t-init

@@ -1,14 +1,9 @@
 -- One term a turn: the rows passed are settled, the others as they were.
-use mathlib.Core.Path.{◌≡◌, refl, sym, ap, ◌∙◌}
-use Prim.Native.Nat.{◌-◌, ◌*◌, ◌≤◌}
-use native.Mathlib.Omega.{arith}
-use borrow.Author.Rules.{rules}
-use lib.ListN.{length, drop, length-drop}
-use lib.Seq.{length-sets}
-use Rattle.words.proofs.Laws.{part_end}
-use Rattle.roster.specs.Sizes.{replicas_most}
+use mathlib.Core.Path.{◌≡◌}
+use Prim.Native.Nat.{◌-◌, ◌≤◌}
+use lib.ListN.{length}
 use Rattle.assembly_choice.specs.Settled.{Settled}
-use Rattle.assembly_choice.proofs.Settling.{Kept, settled_none, settled-put, settled-left}
+use Rattle.assembly_choice.proofs.Settling.{Kept}
 use Rattle.assembly_choice.proofs.settle.Given as goal
 
 abbrev pub invariant-loop-t : goal.invariant-loop-t

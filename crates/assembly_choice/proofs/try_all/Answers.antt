@@ -1,17 +1,12 @@
 -- One candidate a turn, from n down.
 use mathlib.Core.Path.{◌≡◌, refl, ◌∙◌}
-use mathlib.Core.List.{List}
 use Prim.Native.Nat.{◌-◌, ◌*◌, ◌≤◌, ◌<◌}
 use native.Mathlib.Omega.{arith}
 use lib.ListN.{length}
-use Rattle.roster.specs.Roster.{head_size, cluster, replicas}
+use Rattle.roster.specs.Roster.{head_size, replicas}
 use Rattle.roster.proofs.Accepted.{sizes}
-use Rattle.log_chain.specs.Log.{with_terms}
-use Rattle.log_chain.specs.Runs.{Run}
 use Rattle.assembly_copies.specs.Rows.{taken_size}
-use Rattle.assembly_terms.specs.Wanted.{votes_room, VotesIn}
-use Rattle.assembly_choice.specs.Chosen.{RowsHeld}
-use Rattle.assembly_choice.specs.Settled.{StampsPlaced, Tried}
+use Rattle.assembly_terms.specs.Wanted.{votes_room}
 use Rattle.assembly_choice.proofs.Tried.{last_tried, last_none, last_next}
 use Rattle.assembly_choice.proofs.try_all.Goals as goal
 

@@ -53,5 +53,10 @@ returns c =
     let a = c.args in
     let p = c.requires in
     let s = sizes a.roster.now p.0.fine in
-    let rows = rw c.replicas.ensures.0 at c.settle.ensures.rows in record { votes = λ rs last all wanted. (c.find_votes.ensures.votes rs last all wanted).0; tried = λ rs last all wanted stamps tried.
-            tried-next a.roster.now a.items.now a.terms rs a.candidate p.3 p.4 s.high _ a.stamped.now a.taken.now _ (c.find_votes.ensures.votes rs last all wanted).1 stamps rows tried; held = held_next a.terms.size a.items.now (replicas a.roster.now) a.candidate a.terms.count p.3 p.4 s.high _ a.stamped.now a.taken.now _ rows c.find_votes.ensures.placed p.6 p.7; rooms = (c.find_votes.ensures.rooms.0, c.settle.ensures.room) }
+    let rows = rw c.replicas.ensures.0 at c.settle.ensures.rows in record {
+      votes = λ rs last all wanted. (c.find_votes.ensures.votes rs last all wanted).0;
+      tried = λ rs last all wanted stamps tried.
+          tried-next a.roster.now a.items.now a.terms rs a.candidate p.3 p.4 s.high _ a.stamped.now a.taken.now _ (c.find_votes.ensures.votes rs last all wanted).1 stamps rows tried;
+      held = held_next a.terms.size a.items.now (replicas a.roster.now) a.candidate a.terms.count p.3 p.4 s.high _ a.stamped.now a.taken.now _ rows c.find_votes.ensures.placed p.6 p.7;
+      rooms = (c.find_votes.ensures.rooms.0, c.settle.ensures.room);
+    }

@@ -1,5 +1,5 @@
 -- Index by index from the last down: where none so far has a quorum of receipts, the commit is that of those below.
-use mathlib.Core.Path.{◌≡◌, refl, sym, ap, ◌∙◌}
+use mathlib.Core.Path.{refl, sym, ap, ◌∙◌}
 use mathlib.Core.List.{◌∷◌}
 use Prim.Native.Nat.{◌≤◌, ◌<◌}
 use native.Mathlib.Omega.{arith}
@@ -14,7 +14,7 @@ use Rattle.log_chain.specs.Records.{records_of}
 use Rattle.log_checkpoints.specs.Checkpoints.{table_size}
 use Rattle.submission_encoding.specs.Copies.{signers_of}
 use Rattle.assembly.specs.Items.{items_of}
-use Rattle.assembly.specs.Choice.{receipts_for, commit_to}
+use Rattle.assembly.specs.Choice.{receipts_for}
 use Rattle.roster.specs.Sizes.{replicas_most}
 use Rattle.assembly_copies.specs.Rows.{commit_in}
 use Rattle.assembly_commit.specs.Searched.{ReceiptsFound, CommitFound}

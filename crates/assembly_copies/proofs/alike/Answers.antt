@@ -2,7 +2,6 @@
 use mathlib.Core.Path.{◌≡◌, sym}
 use Prim.Native.Nat.{◌+◌, ◌-◌}
 use native.Mathlib.Omega.{arith}
-use borrow.Author.Rules.{rules}
 use lib.Seq.{length-take-le}
 use Rattle.roster.proofs.Accepted.{sizes}
 use Rattle.assembly_copies.proofs.Fitting.{no-replica, beyond, other_length, refuses, decides}
@@ -15,24 +14,24 @@ pub returns-then-own-head : goal.returns-then-own-head
 returns-then-own-head c =
     let a = c.args in
     let it =
-        refuses a.roster.now a.items.now a.wanted.now a.sought a.item c.requires.2 c.requires.1
-        (other_length a.roster.now a.items.now a.wanted.now a.sought a.item c.requires.2 c.requires.1 (λ e. omega (arith, e))) in
+    refuses a.roster.now a.items.now a.wanted.now a.sought a.item c.requires.2 c.requires.1
+    (other_length a.roster.now a.items.now a.wanted.now a.sought a.item c.requires.2 c.requires.1 (λ e. omega (arith, e))) in
     record { yes = it.0; no = it.1 }
 
 pub returns-then-own-head-2 : goal.returns-then-own-head-2
 returns-then-own-head-2 c =
     let a = c.args in
     let it =
-        refuses a.roster.now a.items.now a.wanted.now a.sought a.item c.requires.2 c.requires.1
-        (other_length a.roster.now a.items.now a.wanted.now a.sought a.item c.requires.2 c.requires.1 (λ e. c.if-own-head-2.true (omega (arith, e)))) in
+    refuses a.roster.now a.items.now a.wanted.now a.sought a.item c.requires.2 c.requires.1
+    (other_length a.roster.now a.items.now a.wanted.now a.sought a.item c.requires.2 c.requires.1 (λ e. c.if-own-head-2.true (omega (arith, e)))) in
     record { yes = it.0; no = it.1 }
 
 pub returns-then-k-eq0 : goal.returns-then-k-eq0
 returns-then-k-eq0 c =
     let a = c.args in
     let it =
-        refuses a.roster.now a.items.now a.wanted.now a.sought a.item c.requires.2 c.requires.1
-        (no-replica a.roster.now a.items.now a.wanted.now a.sought a.item c.requires.2 c.if-k-eq0.true) in
+    refuses a.roster.now a.items.now a.wanted.now a.sought a.item c.requires.2 c.requires.1
+    (no-replica a.roster.now a.items.now a.wanted.now a.sought a.item c.requires.2 c.if-k-eq0.true) in
     record { yes = it.0; no = it.1 }
 
 pub replicas-requires : goal.replicas-requires
@@ -44,8 +43,8 @@ pub returns-then-replicas-k : goal.returns-then-replicas-k
 returns-then-replicas-k c =
     let a = c.args in
     let it =
-        refuses a.roster.now a.items.now a.wanted.now a.sought a.item c.requires.2 c.requires.1
-        (beyond a.roster.now a.items.now a.wanted.now a.sought a.item c.requires.2 (omega (arith, c.replicas.ensures.0))) in
+    refuses a.roster.now a.items.now a.wanted.now a.sought a.item c.requires.2 c.requires.1
+    (beyond a.roster.now a.items.now a.wanted.now a.sought a.item c.requires.2 (omega (arith, c.replicas.ensures.0))) in
     record { yes = it.0; no = it.1 }
 
 pub slice_bounds-same-end : goal.slice_bounds-same-end

@@ -1,10 +1,7 @@
 -- One cell a turn.
-use mathlib.Core.Path.{◌≡◌, refl, ◌∙◌}
+use mathlib.Core.Path.{◌≡◌}
 use Prim.Native.Nat.{ℕ, ◌-◌, ◌≤◌, ◌<◌}
-use native.Mathlib.Omega.{arith}
-use borrow.Author.Rules.{rules}
-use lib.ListN.{length, get_or, length-set}
-use Rattle.assembly_copies.proofs.Cells.{cleared_more}
+use lib.ListN.{length, get_or}
 use Rattle.assembly_copies.proofs.clear.Given as goal
 
 abbrev pub invariant-loop-j : goal.invariant-loop-j

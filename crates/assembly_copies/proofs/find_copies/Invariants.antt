@@ -1,12 +1,8 @@
 -- One item a turn: what is found so far, with what the items that are left have, is what all of them have. No reading is refused, since the bag
 -- is whole.
-use mathlib.Core.Path.{refl, sym, ◌∙◌}
 use Prim.Native.Nat.{◌-◌}
-use native.Mathlib.Omega.{arith}
-use borrow.Author.Rules.{rules}
 use lib.ListN.{length}
-use Rattle.assembly_items.proofs.Items.{stands}
-use Rattle.assembly_copies.proofs.Walks.{item_lies, searched_room, Walked, walked_none, walked_all, never, walked-unlike, walked-taken}
+use Rattle.assembly_copies.proofs.Walks.{Walked}
 use Rattle.assembly_copies.proofs.find_copies.Given as goal
 
 abbrev pub invariant-loop-at : goal.invariant-loop-at

@@ -2,10 +2,9 @@
 use mathlib.Core.Path.{◌≡◌, sym, ◌∙◌}
 use Prim.Native.Nat.{◌+◌, ◌-◌, ◌*◌}
 use native.Mathlib.Omega.{arith}
-use borrow.Author.Rules.{rules}
 use Rattle.roster.proofs.Accepted.{sizes}
 use Rattle.assembly_copies.proofs.Fitting.{own-inside, own-length}
-use Rattle.assembly_copies.proofs.Turns.{Turned, turned_none, turned-all, turn-had, turn-unfit, turn-taken}
+use Rattle.assembly_copies.proofs.Turns.{turned_none, turned-all, turn-had, turn-unfit, turn-taken}
 use Rattle.assembly_copies.proofs.offer.Goals as goal
 
 pub overflow_sub-column : goal.overflow_sub-column
@@ -76,7 +75,7 @@ loop-m-preserved-then-is_copy c =
     let p = c.requires in
     let size : a.sought.head + a.sought.tail * c.loop-m.m + a.sought.tail - (a.sought.head + a.sought.tail * c.loop-m.m) ≡ a.sought.tail = omega arith in
     turn-taken a.roster.now a.items.now a.wanted.now a.sought a.item a.rows.now (sizes a.roster.now p.fine).high p.lies p.alike
-    c.loop-m.m (omega arith) c.loop-m.rows c.loop-m.invariant p.inside p.cells c.if-rows-cell-eq0.true
+    c.loop-m.m (omega arith) c.loop-m.rows c.loop-m.invariant p.inside p.cells (omega arith)
     (sym (rw size at c.is_copy.ensures) ∙ c.if-is_copy.true)
 
 pub loop-m-preserved-else-is_copy : goal.loop-m-preserved-else-is_copy
@@ -92,7 +91,7 @@ loop-m-preserved c =
     let a = c.args in
     let p = c.requires in
     turn-had a.roster.now a.items.now a.wanted.now a.sought a.item a.rows.now (sizes a.roster.now p.fine).high p.lies p.alike
-    c.loop-m.m (omega arith) c.loop-m.rows c.loop-m.invariant c.if-rows-cell-eq0.false
+    c.loop-m.m (omega arith) c.loop-m.rows c.loop-m.invariant (λ e. omega (arith, e))
 
 pub returns : goal.returns
 returns c =

@@ -1,11 +1,6 @@
 -- One statement a turn: those before have what the offer makes of their cells, and the others are as they were.
-use mathlib.Core.Path.{◌≡◌, sym, ◌∙◌}
-use Prim.Native.Nat.{◌+◌, ◌-◌, ◌*◌}
-use native.Mathlib.Omega.{arith}
-use borrow.Author.Rules.{rules}
-use Rattle.roster.proofs.Accepted.{sizes}
-use Rattle.assembly_copies.proofs.Fitting.{own-inside, own-length}
-use Rattle.assembly_copies.proofs.Turns.{Turned, turned_none, turned-all, turn-had, turn-unfit, turn-taken}
+use Prim.Native.Nat.{◌-◌}
+use Rattle.assembly_copies.proofs.Turns.{Turned}
 use Rattle.assembly_copies.proofs.offer.Given as goal
 
 abbrev pub invariant-loop-m : goal.invariant-loop-m

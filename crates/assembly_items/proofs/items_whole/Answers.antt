@@ -1,10 +1,6 @@
 -- One item a turn: what is left of the bag is whole where the bag is.
-use mathlib.Core.Path.{◌≡◌, refl, sym, ◌∙◌}
-use Prim.Native.Nat.{◌-◌, ◌≤◌}
+use mathlib.Core.Path.{refl, sym, ◌∙◌}
 use native.Mathlib.Omega.{arith}
-use borrow.Author.Rules.{rules}
-use lib.ListN.{length, drop}
-use Rattle.assembly.specs.Items.{whole}
 use Rattle.assembly_items.proofs.Items.{stands, refused-broken, whole-next, whole-end}
 use Rattle.assembly_items.proofs.items_whole.Goals as goal
 

@@ -1,11 +1,8 @@
 -- One item a turn: what is left of the bag is whole where the bag is.
-use mathlib.Core.Path.{◌≡◌, refl, sym, ◌∙◌}
+use mathlib.Core.Path.{◌≡◌}
 use Prim.Native.Nat.{◌-◌, ◌≤◌}
-use native.Mathlib.Omega.{arith}
-use borrow.Author.Rules.{rules}
 use lib.ListN.{length, drop}
 use Rattle.assembly.specs.Items.{whole}
-use Rattle.assembly_items.proofs.Items.{stands, refused-broken, whole-next, whole-end}
 use Rattle.assembly_items.proofs.items_whole.Given as goal
 
 abbrev pub invariant-loop-at : goal.invariant-loop-at

@@ -1,7 +1,6 @@
 -- The roster first, then 8, 11 and 19; what they let through is assembled.
 use mathlib.Core.Path.{sym, ◌∙◌}
 use native.Mathlib.Omega.{arith}
-use borrow.Author.Rules.{rules}
 use Rattle.roster.proofs.Accepted.{sizes}
 use Rattle.log_chain.specs.Log.{version1}
 use Rattle.submission.specs.Validate.{form_of}
@@ -14,7 +13,7 @@ returns-then-refused-ne0 c =
     let a = c.args in
     let r = roster-refuses a.roster.now a.log.now a.items.now a.output.now c.validate-refused.ensures c.if-refused-ne0.true in
     let it =
-        refusal-answers a.roster.now a.log.now a.items.now a.output.now c.refused.ensures r c.if-refused-ne0.true in
+    refusal-answers a.roster.now a.log.now a.items.now a.output.now c.refused.ensures r c.if-refused-ne0.true in
     record { number = it.0; length = it.1.0; bytes = it.1.1 }
 
 pub signature_size-requires : goal.signature_size-requires
@@ -31,7 +30,7 @@ returns-then-number-ne0 c =
     let number = rw c.signature_size.ensures.0 at c.input_number-number.ensures in
     let r = input-refuses a.roster.now a.log.now a.items.now a.output.now fine number c.if-number-ne0.true in
     let it =
-        refusal-answers a.roster.now a.log.now a.items.now a.output.now c.refused-then-number-ne0.ensures r c.if-number-ne0.true in
+    refusal-answers a.roster.now a.log.now a.items.now a.output.now c.refused-then-number-ne0.ensures r c.if-number-ne0.true in
     record { number = it.0; length = it.1.0; bytes = it.1.1 }
 
 pub assemble_checked-requires : goal.assemble_checked-requires

@@ -3,7 +3,6 @@ use mathlib.Core.Path.{sym}
 use Prim.Native.Nat.{ℕ}
 use native.Mathlib.Nat.{le_of_eq}
 use native.Mathlib.Omega.{arith}
-use borrow.Author.Rules.{rules}
 use lib.ListN.{length-replicate}
 use Rattle.roster.proofs.Accepted.{sizes}
 use Rattle.log_chain.specs.Log.{version1}
@@ -21,8 +20,8 @@ pub returns-in_default : goal.returns-in_default
 returns-in_default c =
     let a = c.args in
     let it =
-        missing-answers a.roster.now a.log.now a.items.now a.output.now c.requires _ _ _ c.take_rows.ensures
-        c.in_default.is c.refused.ensures in
+    missing-answers a.roster.now a.log.now a.items.now a.output.now c.requires _ _ _ c.take_rows.ensures
+    c.in_default.is c.refused.ensures in
     record { number = it.0; length = it.1.0; bytes = it.1.1 }
 
 pub signature_size-requires : goal.signature_size-requires
@@ -51,8 +50,8 @@ returns-then-output-written_size c =
     let plan = plan_given a.roster.now a.log.now _ _ _ _ c.signature_size.ensures.0 c.replicas.ensures.0 c.record_size.ensures.0 in
     let held = plan-held a.roster.now a.log.now a.items.now a.output.now c.requires _ _ _ c.take_rows.ensures _ _ c.in-All.is plan in
     let it =
-        short-answers a.roster.now a.log.now a.items.now a.output.now c.requires _ _ _ c.take_rows.ensures _ _ c.in-All.is plan
-        (c.written_size.ensures _ _ _ held) c.if-output-written_size.true c.refused-then-output-written_size.ensures in
+    short-answers a.roster.now a.log.now a.items.now a.output.now c.requires _ _ _ c.take_rows.ensures _ _ c.in-All.is plan
+    (c.written_size.ensures _ _ _ held) c.if-output-written_size.true c.refused-then-output-written_size.ensures in
     record { number = it.0; length = it.1.0; bytes = it.1.1 }
 
 pub write-length-requires : goal.write-length-requires
@@ -68,6 +67,6 @@ returns c =
     let plan = plan_given a.roster.now a.log.now _ _ _ _ c.signature_size.ensures.0 c.replicas.ensures.0 c.record_size.ensures.0 in
     let held = plan-held a.roster.now a.log.now a.items.now a.output.now c.requires _ _ _ c.take_rows.ensures _ _ c.in-All.is plan in
     let it =
-        written-answers a.roster.now a.log.now a.items.now a.output.now c.requires _ _ _ c.take_rows.ensures _ _ c.in-All.is plan
-        (c.written_size.ensures _ _ _ held) (omega (arith, c.if-output-written_size.false)) c.write-length.ensures.size c.write-length.ensures.bytes in
+    written-answers a.roster.now a.log.now a.items.now a.output.now c.requires _ _ _ c.take_rows.ensures _ _ c.in-All.is plan
+    (c.written_size.ensures _ _ _ held) (omega (arith, c.if-output-written_size.false)) c.write-length.ensures.size c.write-length.ensures.bytes in
     record { number = it.0; length = it.1.0; bytes = it.1.1 }

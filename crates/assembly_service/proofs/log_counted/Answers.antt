@@ -1,7 +1,6 @@
 -- A test that fails ends the check, and the last decides.
 use native.Mathlib.Nat.{mul-div-le}
 use native.Mathlib.Omega.{arith}
-use borrow.Author.Rules.{rules}
 use lib.ListN.{length}
 use Rattle.log_chain.specs.Records.{record_size}
 use Rattle.assembly_service.proofs.Counted.{some_bytes, log-cut, log-long, log-terms}

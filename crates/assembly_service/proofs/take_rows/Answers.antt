@@ -3,7 +3,6 @@ use mathlib.Core.Path.{sym}
 use native.Mathlib.Nat.{le_of_eq}
 use native.Mathlib.Omega.{arith}
 use borrow.Author.Rules.{rules}
-use borrow.Author.Tests.{not-true, not-false}
 use Rattle.roster.proofs.Accepted.{sizes}
 use Rattle.log_chain.specs.Log.{version1}
 use Rattle.submission.specs.Validate.{form_of}

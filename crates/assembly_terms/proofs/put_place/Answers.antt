@@ -6,7 +6,6 @@ use Rattle.words.proofs.Laws.{length-be}
 use Rattle.sha256.specs.Sha256.{bytes_of}
 use Rattle.lm_hash.proofs.Values.{length-bytes}
 use Rattle.assembly_terms.proofs.Tables.{three_put}
-use borrow.Author.Rules.{rules}
 use Rattle.assembly_terms.proofs.put_place.Goals as goal
 
 pub returns : goal.returns

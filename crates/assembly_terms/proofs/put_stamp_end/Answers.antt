@@ -2,7 +2,6 @@
 use mathlib.Core.Path.{sym, ap, ◌∙◌}
 use mathlib.Core.List.{List}
 use Prim.Native.Nat.{ℕ}
-use borrow.Author.Rules.{rules}
 use Rattle.words.specs.Over.{over}
 use Rattle.log_chain.specs.Records.{records_of}
 use Rattle.log_chain.proofs.Records.{length-records}

@@ -2,7 +2,6 @@
 use mathlib.Core.Path.{sym, ◌∙◌}
 use Prim.Native.Nat.{◌+◌, ◌≤◌}
 use native.Mathlib.Omega.{arith}
-use borrow.Author.Rules.{rules}
 use lib.ListN.{length, take}
 use lib.Seq.{length-take-le}
 use Rattle.roster.specs.Roster.{cluster, name_size}
@@ -59,7 +58,12 @@ returns c =
     let name = take name_size a.roster.now in
     let named = length-take-le name_size a.roster.now c.requires.0 in
     let rs = runs (records_of a.width a.records a.log.now) in
-    let rooms = c.put_ends.ensures.rooms in record { count = c.put_ends.ensures.count; votes = votes-headed a.width name named rs a.votes.now _ c.put_vote_statement.ensures.bytes c.put_ends.ensures.votes; stamps = stamps-headed a.width name named rs a.stamps.now _ c.put_vote_statement-2.ensures.bytes c.put_ends.ensures.stamps; rooms = (
-            rooms.0 ∙ votes-kept a.width name named a.votes.now c.put_vote_statement.ensures.bytes c.requires.5,
-            rooms.1 ∙ stamps-kept a.width name named a.stamps.now c.put_vote_statement-2.ensures.bytes c.requires.6,
-          ) }
+    let rooms = c.put_ends.ensures.rooms in record {
+      count = c.put_ends.ensures.count;
+      votes = votes-headed a.width name named rs a.votes.now _ c.put_vote_statement.ensures.bytes c.put_ends.ensures.votes;
+      stamps = stamps-headed a.width name named rs a.stamps.now _ c.put_vote_statement-2.ensures.bytes c.put_ends.ensures.stamps;
+      rooms = (
+        rooms.0 ∙ votes-kept a.width name named a.votes.now c.put_vote_statement.ensures.bytes c.requires.5,
+        rooms.1 ∙ stamps-kept a.width name named a.stamps.now c.put_vote_statement-2.ensures.bytes c.requires.6,
+      );
+    }

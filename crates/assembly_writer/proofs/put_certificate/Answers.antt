@@ -1,6 +1,5 @@
 -- The candidate and the end of the vote at the start, and signers and signatures into the rest.
 use native.Mathlib.Omega.{arith}
-use borrow.Author.Rules.{rules}
 use Rattle.words.proofs.Laws.{part_end}
 use Rattle.words.proofs.Over.{begun-long, rest-inside, rest-room, rest_put}
 use Rattle.assembly_writer.specs.Parts.{certificate_in}

@@ -1,13 +1,12 @@
 -- Each part begins where the last one ended.
-use mathlib.Core.List.{List}
-use Prim.Native.Nat.{ℕ, ◌*◌, ◌<◌}
+use Prim.Native.Nat.{◌*◌, ◌<◌}
 use native.Mathlib.Omega.{arith}
 use borrow.Author.Rules.{rules}
 use lib.ListN.{length}
 use Rattle.words.proofs.Laws.{part_end}
-use Rattle.words.proofs.Over.{Begun, begun-long, rest-inside, rest-room, rest_put}
+use Rattle.words.proofs.Over.{begun-long, rest-inside, rest-room, rest_put}
 use Rattle.assembly_copies.specs.Rows.{taken_size}
-use Rattle.assembly_writer.specs.Parts.{leaders_part, stamps_part, certified_part}
+use Rattle.assembly_writer.specs.Parts.{certified_part}
 use Rattle.assembly_writer.proofs.Rows.{commit-row-long, commit-row-first, commit-row-places}
 use Rattle.assembly_writer.proofs.Certified.{leaders-room, leaders-begun, stamps-begun}
 use Rattle.assembly_writer.proofs.put_certified.Goals as goal

@@ -1,7 +1,6 @@
 -- Nothing, or the index at the start, and signers and signatures into the rest.
 use mathlib.Core.Path.{sym, ap, ◌∙◌}
 use native.Mathlib.Omega.{arith}
-use borrow.Author.Rules.{rules}
 use lib.ListN.{length}
 use Rattle.words.specs.Over.{over}
 use Rattle.words.proofs.Laws.{part_end}

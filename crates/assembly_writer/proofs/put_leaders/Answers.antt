@@ -1,11 +1,9 @@
 -- A certificate a turn, into the rest of the buffer.
 use mathlib.Core.Path.{ap, ◌∙◌}
-use Prim.Native.Nat.{◌-◌, ◌≤◌, ◌<◌}
+use Prim.Native.Nat.{◌≤◌, ◌<◌}
 use native.Mathlib.Omega.{arith}
-use borrow.Author.Rules.{rules}
 use lib.ListN.{length}
-use Rattle.assembly_writer.specs.Parts.{certificate_part}
-use Rattle.assembly_writer.proofs.Joined.{PartsPut, parts_none, part-inside, part_room, part_put, parts_all}
+use Rattle.assembly_writer.proofs.Joined.{parts_none, part-inside, part_room, part_put, parts_all}
 use Rattle.assembly_writer.proofs.Rows.{vote-inside, row_part, certificate_part_lem, row-long, row_first, row-places}
 use Rattle.assembly_writer.proofs.put_leaders.Goals as goal
 

@@ -1,7 +1,6 @@
 -- Nothing, or the part of the bag that begins at the place.
 use mathlib.Core.Path.{ap, ◌∙◌}
 use native.Mathlib.Omega.{arith}
-use borrow.Author.Rules.{rules}
 use lib.Seq.{sets}
 use Rattle.words.proofs.Over.{over_first}
 use Rattle.assembly_writer.proofs.Signatures.{none-put, signature-part, signature-long}

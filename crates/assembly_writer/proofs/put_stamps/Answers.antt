@@ -1,11 +1,7 @@
 -- A stamp a turn, into the rest of the buffer.
-use Prim.Native.Nat.{◌+◌, ◌-◌, ◌*◌, ◌<◌}
+use Prim.Native.Nat.{◌<◌}
 use native.Mathlib.Omega.{arith}
-use borrow.Author.Rules.{rules}
-use lib.ListN.{get_or}
-use Rattle.assembly_copies.specs.Rows.{taken_size}
-use Rattle.assembly_writer.specs.Parts.{signature_at}
-use Rattle.assembly_writer.proofs.Joined.{PartsPut, parts_none, part-inside, part_room, part_put, parts_all}
+use Rattle.assembly_writer.proofs.Joined.{parts_none, part-inside, part_room, part_put, parts_all}
 use Rattle.assembly_writer.proofs.put_stamps.Goals as goal
 
 pub loop-t-init : goal.loop-t-init

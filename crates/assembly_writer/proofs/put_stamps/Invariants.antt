@@ -1,11 +1,9 @@
 -- A stamp a turn, into the rest of the buffer.
-use Prim.Native.Nat.{◌+◌, ◌-◌, ◌*◌, ◌<◌}
-use native.Mathlib.Omega.{arith}
-use borrow.Author.Rules.{rules}
+use Prim.Native.Nat.{◌+◌, ◌-◌, ◌*◌}
 use lib.ListN.{get_or}
 use Rattle.assembly_copies.specs.Rows.{taken_size}
 use Rattle.assembly_writer.specs.Parts.{signature_at}
-use Rattle.assembly_writer.proofs.Joined.{PartsPut, parts_none, part-inside, part_room, part_put, parts_all}
+use Rattle.assembly_writer.proofs.Joined.{PartsPut}
 use Rattle.assembly_writer.proofs.put_stamps.Given as goal
 
 abbrev pub invariant-loop-t : goal.invariant-loop-t

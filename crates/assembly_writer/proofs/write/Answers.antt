@@ -1,17 +1,13 @@
 -- The log, parts 2 to 4, the trailer: each begins where the last one ended.
 use mathlib.Core.Path.{sym, ap, ◌∙◌}
-use mathlib.Core.List.{List, ◌++◌}
-use Prim.Native.Nat.{ℕ, ◌+◌, ◌-◌, ◌≤◌, ◌<◌}
+use Prim.Native.Nat.{◌<◌}
 use native.Mathlib.Omega.{arith}
 use borrow.Author.Rules.{rules}
-use borrow.Rule.Slice.PartMut.{put_mid}
 use lib.ListN.{length}
 use Rattle.words.specs.Over.{over}
-use Rattle.words.proofs.Bytes.{Bytes}
 use Rattle.words.proofs.Laws.{bytes_each}
-use Rattle.words.proofs.Over.{Begun, begun-long, rest-inside, rest-room, rest_put}
+use Rattle.words.proofs.Over.{begun-long, rest-inside, rest-room, rest_put}
 use Rattle.roster.specs.Roster.{cluster}
-use Rattle.assembly_writer.specs.Parts.{certified_part, fields_for, trailer_part}
 use Rattle.assembly_writer.proofs.Planned.{votes-room, index-small, bytes-parts, log-room, log-begun, sizes-small, certified-put}
 use Rattle.assembly_writer.proofs.write.Goals as goal
 

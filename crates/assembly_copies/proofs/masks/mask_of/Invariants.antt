@@ -2,13 +2,9 @@
 use mathlib.Core.Path.{◌≡◌}
 use mathlib.Core.List.{List}
 use Prim.Native.Nat.{ℕ, ◌-◌, ◌^◌, ◌≤◌, ◌<◌}
-use native.Mathlib.Nat.{sub-zero}
-use native.Mathlib.Omega.{arith}
-use borrow.Author.Rules.{rules}
 use lib.ListN.{drop}
 use Rattle.submission_encoding.specs.Copies.{signers_of}
 use Rattle.assembly_copies.specs.Rows.{copies_at}
-use Rattle.assembly_copies.proofs.Signers.{signers-none, signers-absent, signers-present, bits-step, bits_fit}
 use Rattle.assembly_copies.proofs.masks.mask_of.Given as goal
 
 abbrev pub invariant-loop-k : goal.invariant-loop-k

@@ -1,10 +1,8 @@
 -- Two stores, and one place a turn.
 use mathlib.Core.Path.{◌≡◌, refl}
-use Prim.Native.Nat.{suc, ◌+◌, ◌-◌, ◌≤◌, ◌<◌}
+use Prim.Native.Nat.{suc, ◌+◌, ◌<◌}
 use native.Mathlib.Omega.{arith}
-use borrow.Author.Rules.{rules}
-use lib.ListN.{length, take, length-set}
-use lib.Seq.{sets}
+use lib.ListN.{length, length-set}
 use Rattle.words.proofs.Laws.{sets_more}
 use Rattle.assembly_copies.proofs.places.put_row.Goals as goal
 

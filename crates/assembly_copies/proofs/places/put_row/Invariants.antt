@@ -1,11 +1,8 @@
 -- Two stores, and one place a turn.
-use mathlib.Core.Path.{◌≡◌, refl}
-use Prim.Native.Nat.{suc, ◌+◌, ◌-◌, ◌≤◌, ◌<◌}
-use native.Mathlib.Omega.{arith}
-use borrow.Author.Rules.{rules}
-use lib.ListN.{length, take, length-set}
+use mathlib.Core.Path.{◌≡◌}
+use Prim.Native.Nat.{◌+◌, ◌-◌, ◌≤◌}
+use lib.ListN.{length, take}
 use lib.Seq.{sets}
-use Rattle.words.proofs.Laws.{sets_more}
 use Rattle.assembly_copies.proofs.places.put_row.Given as goal
 
 abbrev pub invariant-loop-k : goal.invariant-loop-k

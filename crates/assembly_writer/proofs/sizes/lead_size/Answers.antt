@@ -1,6 +1,5 @@
 -- The fields of a vote, signers and signatures, and a stamp.
 use native.Mathlib.Omega.{arith}
-use borrow.Author.Rules.{rules}
 use Rattle.words.proofs.Laws.{part_end}
 use Rattle.submission.specs.Reading.{ballot_size}
 use Rattle.assembly_writer.proofs.Heads.{certificate-long}
@@ -10,7 +9,8 @@ pub returns : goal.returns
 unfolding ballot_size
 returns c =
     let a = c.args in
-    let long = rw (part_end a.row.now 2) at c.signed_size-signed.ensures.size in record { size = λ item_bytes end held place tail.
+    let long = rw (part_end a.row.now 2) at c.signed_size-signed.ensures.size in record {
+      size = λ item_bytes end held place tail.
           omega (
             arith,
             long item_bytes held,
@@ -18,4 +18,6 @@ returns c =
             c.ballot_size.ensures.0,
             certificate-long a.plan.size item_bytes a.plan.replicas end a.row.now,
             tail,
-          ); most = omega (arith, c.signed_size-signed.ensures.most, c.signature_size-stamp.ensures.most, c.ballot_size.ensures.1) }
+          );
+      most = omega (arith, c.signed_size-signed.ensures.most, c.signature_size-stamp.ensures.most, c.ballot_size.ensures.1);
+    }

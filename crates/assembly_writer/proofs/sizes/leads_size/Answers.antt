@@ -1,12 +1,8 @@
 -- A row a turn.
 use mathlib.Core.Path.{◌≡◌, ap, ◌∙◌}
-use mathlib.Core.List.{List}
-use Prim.Native.Nat.{ℕ, ◌+◌, ◌-◌, ◌*◌, ◌≤◌, ◌<◌}
+use Prim.Native.Nat.{◌<◌}
 use native.Mathlib.Omega.{arith}
-use borrow.Author.Rules.{rules}
-use lib.ListN.{length}
-use Rattle.assembly_terms.specs.Wanted.{vote_head, vote_tail}
-use Rattle.assembly_writer.specs.Parts.{lead_most, vote_end_at, RowsInside}
+use Rattle.assembly_writer.specs.Parts.{vote_end_at}
 use Rattle.assembly_writer.proofs.Rows.{row_part}
 use Rattle.assembly_writer.proofs.Lengths.{row_cut_long, leads_length, leads-none, leads-next}
 use Rattle.assembly_writer.proofs.sizes.leads_size.Goals as goal

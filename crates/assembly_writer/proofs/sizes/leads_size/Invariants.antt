@@ -1,14 +1,11 @@
 -- A row a turn.
-use mathlib.Core.Path.{◌≡◌, ap, ◌∙◌}
+use mathlib.Core.Path.{◌≡◌}
 use mathlib.Core.List.{List}
-use Prim.Native.Nat.{ℕ, ◌+◌, ◌-◌, ◌*◌, ◌≤◌, ◌<◌}
-use native.Mathlib.Omega.{arith}
-use borrow.Author.Rules.{rules}
+use Prim.Native.Nat.{ℕ, ◌+◌, ◌-◌, ◌*◌, ◌≤◌}
 use lib.ListN.{length}
 use Rattle.assembly_terms.specs.Wanted.{vote_head, vote_tail}
-use Rattle.assembly_writer.specs.Parts.{lead_most, vote_end_at, RowsInside}
-use Rattle.assembly_writer.proofs.Rows.{row_part}
-use Rattle.assembly_writer.proofs.Lengths.{row_cut_long, leads_length, leads-none, leads-next}
+use Rattle.assembly_writer.specs.Parts.{lead_most, RowsInside}
+use Rattle.assembly_writer.proofs.Lengths.{leads_length}
 use Rattle.assembly_writer.proofs.sizes.leads_size.Given as goal
 
 abbrev pub invariant-loop-t : goal.invariant-loop-t

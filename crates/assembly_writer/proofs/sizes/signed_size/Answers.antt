@@ -1,6 +1,5 @@
 -- As many signatures as the mask has ones.
 use native.Mathlib.Omega.{arith}
-use borrow.Author.Rules.{rules}
 use Rattle.assembly_writer.proofs.Lengths.{ones-few, ones_small, ones_signed}
 use Rattle.assembly_writer.proofs.sizes.signed_size.Goals as goal
 

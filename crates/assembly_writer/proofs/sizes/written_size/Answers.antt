@@ -1,7 +1,6 @@
 -- The parts' bytes, one by one.
 use Prim.Native.Nat.{◌*◌}
 use native.Mathlib.Omega.{arith}
-use borrow.Author.Rules.{rules}
 use Rattle.words.proofs.Laws.{bytes_each, part_end}
 use Rattle.assembly_copies.specs.Rows.{taken_size}
 use Rattle.assembly_writer.proofs.Rows.{commit-row-places}

@@ -1,14 +1,12 @@
 -- A number a turn, into the rest of the buffer.
 use mathlib.Core.Path.{sym, ◌∙◌}
-use Prim.Native.Nat.{◌-◌, ◌<◌}
+use Prim.Native.Nat.{◌<◌}
 use native.Mathlib.Omega.{arith}
-use borrow.Author.Rules.{rules}
 use lib.ListN.{get_or}
-use Rattle.words.specs.BigEndian.{be}
 use Rattle.words.proofs.Laws.{length-be}
 use Rattle.words.proofs.Over.{over_first}
 use Rattle.assembly_writer.specs.Parts.{field_count}
-use Rattle.assembly_writer.proofs.Joined.{PartsPut, parts_none, part-inside, part_room, part_put, parts_all}
+use Rattle.assembly_writer.proofs.Joined.{parts_none, part-inside, part_room, part_put, parts_all}
 use Rattle.assembly_writer.proofs.trailer.put_fields.Goals as goal
 
 pub loop-i-init : goal.loop-i-init

@@ -1,14 +1,9 @@
 -- A number a turn, into the rest of the buffer.
-use mathlib.Core.Path.{sym, ◌∙◌}
-use Prim.Native.Nat.{◌-◌, ◌<◌}
-use native.Mathlib.Omega.{arith}
-use borrow.Author.Rules.{rules}
+use Prim.Native.Nat.{◌-◌}
 use lib.ListN.{get_or}
 use Rattle.words.specs.BigEndian.{be}
-use Rattle.words.proofs.Laws.{length-be}
-use Rattle.words.proofs.Over.{over_first}
 use Rattle.assembly_writer.specs.Parts.{field_count}
-use Rattle.assembly_writer.proofs.Joined.{PartsPut, parts_none, part-inside, part_room, part_put, parts_all}
+use Rattle.assembly_writer.proofs.Joined.{PartsPut}
 use Rattle.assembly_writer.proofs.trailer.put_fields.Given as goal
 
 abbrev pub invariant-loop-i : goal.invariant-loop-i

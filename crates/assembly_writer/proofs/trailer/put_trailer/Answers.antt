@@ -1,6 +1,5 @@
 -- The name at the start, and the numbers into the rest.
 use native.Mathlib.Omega.{arith}
-use borrow.Author.Rules.{rules}
 use Rattle.words.proofs.Over.{begun-long, rest-inside, rest-room, rest_put}
 use Rattle.assembly_writer.specs.Parts.{trailer_part}
 use Rattle.assembly_writer.proofs.Heads.{name-room, name-begun}
