@@ -4,7 +4,6 @@ use native.Mathlib.Omega.{arith}
 use lib.Dec.{leb}
 use Rattle.submission_parts.proofs.Shapes.{known-records}
 use Rattle.submission_checks.proofs.CommitIndex.{no_index, zero-index, index-within}
-use borrow.Author.Rules.{rules}
 use Rattle.submission_checks.proofs.index_within_log.Goals as goal
 
 pub commit_part-requires : goal.commit_part-requires

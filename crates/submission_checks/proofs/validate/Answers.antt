@@ -1,7 +1,6 @@
 -- A roster's refusal comes before the submission's.
 use mathlib.Core.Path.{sym, ◌∙◌}
 use native.Mathlib.Omega.{arith}
-use borrow.Author.Rules.{rules}
 use Rattle.refusal.proofs.Laws.{first-refused, first-accepted}
 use Rattle.submission_checks.proofs.Pointers.{refuses}
 use Rattle.submission_checks.proofs.validate.Goals as goal

@@ -2,7 +2,6 @@
 use mathlib.Core.Path.{refl, ◌∙◌}
 use mathlib.Core.List.{[]}
 use native.Mathlib.Omega.{arith}
-use borrow.Author.Rules.{rules}
 use lib.Dec.{lit≤}
 use Rattle.refusal.proofs.Laws.{passed, refused, met, unmet}
 use Rattle.roster.proofs.Accepted.{sizes, signature-bounds}

@@ -2,7 +2,6 @@
 use mathlib.Core.Path.{ap, ◌∙◌}
 use Prim.Native.Nat.{ℕ, ◌+◌}
 use native.Mathlib.Omega.{arith}
-use borrow.Author.Rules.{rules}
 use Rattle.words.specs.BigEndian.{number_at}
 use Rattle.roster.specs.Masks.{signer}
 use Rattle.submission.specs.Reading.{ballot_size, signers_at}

@@ -2,7 +2,6 @@
 use mathlib.Core.Path.{◌≡◌, sym, ◌∙◌}
 use Prim.Native.Nat.{◌+◌, ◌-◌}
 use native.Mathlib.Omega.{arith}
-use borrow.Author.Rules.{rules}
 use Rattle.words.proofs.Same.{same_test}
 use Rattle.sha256.specs.Sha256.{bytes_of}
 use Rattle.submission.specs.Reading.{ballot_size, ballot_at}

@@ -1,18 +1,15 @@
 -- One certificate and one term a turn: those that are left give what all of them give.
 use mathlib.Core.Path.{◌≡◌, sym, ap, ◌∙◌}
-use mathlib.Core.List.{List, []}
-use Prim.Native.Nat.{ℕ, ◌-◌, ◌≤◌, ◌<◌}
+use mathlib.Core.List.{[]}
+use Prim.Native.Nat.{◌-◌, ◌≤◌, ◌<◌}
 use native.Mathlib.Nat.{le_trans}
 use native.Mathlib.Omega.{arith}
-use lib.ListN.{length, drop}
+use lib.ListN.{length}
 use lib.Seq.{take-nil}
-use Rattle.refusal.specs.Checks.{every}
 use Rattle.log_chain.specs.Log.{Record, with_terms}
-use Rattle.submission.specs.View.{leads_of, leads}
 use Rattle.log_chain.specs.Records.{records_of}
-use Rattle.submission.specs.Reading.{certificates, certificates_end, view}
+use Rattle.submission.specs.Reading.{view}
 use Rattle.log_terms.specs.Later.{runs_left}
-use Rattle.log_terms.specs.Pointed.{PointersCarried}
 use Rattle.submission.specs.Validate.{leading}
 use Rattle.submission.proofs.Certificates.{certificate-head, first-inside, rest-inside}
 use Rattle.submission_parts.proofs.Shapes.{known-leaders, known-stamps, known-leads, stamp-count, run-count, few-records, records-room, upto-room, leaders-room}
@@ -59,10 +56,13 @@ leading-requires c =
 pub returns-then-not-leading : goal.returns-then-not-leading
 returns-then-not-leading c =
     let l = c.loop-left in
-    let a = c.args in record { holds = (λ name.
+    let a = c.args in record {
+      holds = (λ name.
           lead-fails a.shape.width a.shape.size a.s.now (leading (with_terms a.shape.width name) a.n) l.left l.place (runs_left a.shape.width a.shape.records l.walked.end a.s.now) a.shape.leaders _
           (l.invariant.5 name) (omega (arith, c.loop-left-test.true)) l.invariant.0 (stamp-count _ _ c.requires.0) _ _ c.next_run-next.ensures.runs
-          (c.leading.ensures name) (ap not c.if-not-leading.true)); pointers = c.pointers_zero.ensures (with_terms a.shape.width []) }
+          (c.leading.ensures name) (ap not c.if-not-leading.true));
+      pointers = c.pointers_zero.ensures (with_terms a.shape.width []);
+    }
 
 pub certificate_end-place-requires : goal.certificate_end-place-requires
 certificate_end-place-requires c =
@@ -102,6 +102,9 @@ returns c =
     let s = a.s.now in
     let w = a.shape.width in
     let over : a.shape.records ≤ l.walked.end = runs-over w a.shape.records l.walked.end s (omega (arith, c.loop-left-test.false, l.invariant.2)) in
-    let end : l.walked.end ≡ a.shape.records = omega (arith, over, l.invariant.1) in record { holds = (λ name.
+    let end : l.walked.end ≡ a.shape.records = omega (arith, over, l.invariant.1) in record {
+      holds = (λ name.
           led w a.shape.size s (leading (with_terms w name) a.n) l.left l.place (runs_left w a.shape.records l.walked.end s) a.shape.leaders _
-          (l.invariant.5 name) (omega (arith, c.loop-left-test.false))); pointers = walked_through a.shape s _ l.walked.end c.requires.0 c.commit_index-commit.ensures end l.invariant.4 }
+          (l.invariant.5 name) (omega (arith, c.loop-left-test.false)));
+      pointers = walked_through a.shape s _ l.walked.end c.requires.0 c.commit_index-commit.ensures end l.invariant.4;
+    }

@@ -1,23 +1,15 @@
 -- One certificate and one term a turn: those that are left give what all of them give.
-use mathlib.Core.Path.{◌≡◌, sym, ap, ◌∙◌}
-use mathlib.Core.List.{List, []}
-use Prim.Native.Nat.{ℕ, ◌-◌, ◌≤◌, ◌<◌}
-use native.Mathlib.Nat.{le_trans}
-use native.Mathlib.Omega.{arith}
+use mathlib.Core.Path.{◌≡◌}
+use mathlib.Core.List.{List}
+use Prim.Native.Nat.{ℕ, ◌-◌, ◌≤◌}
 use lib.ListN.{length, drop}
-use lib.Seq.{take-nil}
 use Rattle.refusal.specs.Checks.{every}
-use Rattle.log_chain.specs.Log.{Record, with_terms}
+use Rattle.log_chain.specs.Log.{with_terms}
 use Rattle.submission.specs.View.{leads_of, leads}
-use Rattle.log_chain.specs.Records.{records_of}
 use Rattle.submission.specs.Reading.{certificates, certificates_end, view}
 use Rattle.log_terms.specs.Later.{runs_left}
 use Rattle.log_terms.specs.Pointed.{PointersCarried}
 use Rattle.submission.specs.Validate.{leading}
-use Rattle.submission.proofs.Certificates.{certificate-head, first-inside, rest-inside}
-use Rattle.submission_parts.proofs.Shapes.{known-leaders, known-stamps, known-leads, stamp-count, run-count, few-records, records-room, upto-room, leaders-room}
-use Rattle.submission_leaders.proofs.LeadWalk.{led, lead-fails, lead-next, walked_through}
-use Rattle.log_terms.proofs.Walks.{runs-all, runs-some, runs-over}
 use Rattle.submission_leaders.proofs.leaders_match_log.Given as goal
 
 abbrev pub invariant-loop-left : goal.invariant-loop-left

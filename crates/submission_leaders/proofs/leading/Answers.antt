@@ -1,8 +1,6 @@
 -- Each test that fails ends the check, and the last decides.
 use mathlib.Core.Path.{sym, ◌∙◌}
 use native.Mathlib.Omega.{arith}
-use borrow.Author.Rules.{rules}
-use borrow.Author.Tests.{not-true, not-false}
 use Rattle.sha256.specs.Sha256.{bytes_of}
 use Rattle.submission.specs.Reading.{ballot_size, certificate_at}
 use Rattle.log_chain.specs.Records.{records_of}

@@ -7,7 +7,6 @@ use lib.ListN.{length-set}
 use lib.Seq.{sets}
 use Rattle.submission_leaves.specs.Entries.{entry_size}
 use Rattle.submission_leaves.proofs.Entries.{entry_added}
-use borrow.Author.Rules.{rules}
 use Rattle.submission_leaves.proofs.add_use.Goals as goal
 
 pub put_bytes-requires : goal.put_bytes-requires

@@ -2,7 +2,6 @@
 use mathlib.Core.Path.{sym, ◌∙◌}
 use Rattle.words.proofs.Same.{same_test}
 use Rattle.submission_leaves.proofs.Entries.{other-leaf, by-messages}
-use borrow.Author.Rules.{rules}
 use Rattle.submission_leaves.proofs.entries_reused.Goals as goal
 
 pub returns-then-u32_at : goal.returns-then-u32_at

@@ -1,9 +1,7 @@
 -- One entry a turn.
-use Prim.Native.Nat.{◌-◌, ◌≤◌}
 use native.Mathlib.Omega.{arith}
 use Rattle.submission_leaves.specs.Entries.{entry_use_at}
-use Rattle.submission_leaves.proofs.Entries.{ReusedLeft, all_left, found, not_found, none_left}
-use borrow.Author.Rules.{rules}
+use Rattle.submission_leaves.proofs.Entries.{all_left, found, not_found, none_left}
 use Rattle.submission_leaves.proofs.leaf_reused.Goals as goal
 
 pub loop-j-init : goal.loop-j-init

@@ -1,9 +1,7 @@
 -- One entry a turn.
 use Prim.Native.Nat.{◌-◌, ◌≤◌}
-use native.Mathlib.Omega.{arith}
 use Rattle.submission_leaves.specs.Entries.{entry_use_at}
-use Rattle.submission_leaves.proofs.Entries.{ReusedLeft, all_left, found, not_found, none_left}
-use borrow.Author.Rules.{rules}
+use Rattle.submission_leaves.proofs.Entries.{ReusedLeft}
 use Rattle.submission_leaves.proofs.leaf_reused.Given as goal
 
 abbrev pub invariant-loop-j : goal.invariant-loop-j

@@ -1,7 +1,6 @@
 -- One signature for each of the signers, the ones among sixteen bits.
 use mathlib.Core.Path.{refl}
 use native.Mathlib.Omega.{arith}
-use borrow.Author.Rules.{rules}
 use lib.Count.{ones-le}
 use Rattle.submission.specs.Reading.{certificate_end}
 use Rattle.submission_parts.proofs.Readings.{ends_at}

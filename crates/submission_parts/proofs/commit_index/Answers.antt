@@ -1,6 +1,5 @@
 -- The index is the definition's.
 use mathlib.Core.Path.{sym, ◌∙◌}
-use borrow.Author.Rules.{rules}
 use Rattle.submission.specs.Reading.{commit_at}
 use Rattle.submission_parts.specs.Reader.{commit_numbers_at}
 use Rattle.submission_parts.specs.Commits.{commit_index}

@@ -6,7 +6,6 @@ use Rattle.submission.specs.Reading.{commit_from}
 use Rattle.submission_parts.proofs.Inside.{standing, commit-inside}
 use Rattle.submission_parts.proofs.Readings.{no-commit-passes, commit-says}
 use Rattle.submission_parts.proofs.Commits.{absent, found}
-use borrow.Author.Rules.{rules}
 use Rattle.submission_parts.proofs.commit_part.Goals as goal
 
 pub returns-then-back-eq0 : goal.returns-then-back-eq0

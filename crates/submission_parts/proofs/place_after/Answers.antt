@@ -1,9 +1,6 @@
 -- One certificate a turn: those that are left end where all of them do.
-use mathlib.Core.Path.{◌≡◌, refl, sym, ◌∙◌}
-use Prim.Native.Nat.{◌≤◌}
+use mathlib.Core.Path.{refl, sym, ◌∙◌}
 use native.Mathlib.Omega.{arith}
-use borrow.Author.Rules.{rules}
-use Rattle.submission.specs.Reading.{certificates_end}
 use Rattle.submission_parts.proofs.Readings.{placed, passes, next, arrives}
 use Rattle.submission_parts.proofs.place_after.Goals as goal
 

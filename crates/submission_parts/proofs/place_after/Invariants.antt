@@ -1,10 +1,7 @@
 -- One certificate a turn: those that are left end where all of them do.
-use mathlib.Core.Path.{◌≡◌, refl, sym, ◌∙◌}
+use mathlib.Core.Path.{◌≡◌}
 use Prim.Native.Nat.{◌≤◌}
-use native.Mathlib.Omega.{arith}
-use borrow.Author.Rules.{rules}
 use Rattle.submission.specs.Reading.{certificates_end}
-use Rattle.submission_parts.proofs.Readings.{placed, passes, next, arrives}
 use Rattle.submission_parts.proofs.place_after.Given as goal
 
 abbrev pub invariant-loop-left : goal.invariant-loop-left

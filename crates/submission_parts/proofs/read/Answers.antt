@@ -1,6 +1,5 @@
 -- A certificate whose fields pass the end is refused, and so is one whose signatures do.
 use native.Mathlib.Omega.{arith}
-use borrow.Author.Rules.{rules}
 use Rattle.submission_parts.proofs.Readings.{certificate_fields, ends_at, numbered, unread, read}
 use Rattle.submission_parts.proofs.read.Goals as goal
 

@@ -7,7 +7,6 @@ use Rattle.submission.specs.Reading.{signers_at, commit_at, commit_end}
 use Rattle.submission_parts.specs.Reader.{commit_numbers_at}
 use Rattle.submission_parts.proofs.Readings.{commit-fields}
 use Rattle.submission_parts.proofs.Readings.{commit-numbered, no-commit, read-commit}
-use borrow.Author.Rules.{rules}
 use Rattle.submission_parts.proofs.read_commit.Goals as goal
 
 pub returns-then-end-at : goal.returns-then-end-at

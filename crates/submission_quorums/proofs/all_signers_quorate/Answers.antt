@@ -1,8 +1,6 @@
 -- The leader certificates first, then the commit certificate.
 use mathlib.Core.Path.{sym, ◌∙◌}
 use native.Mathlib.Omega.{arith}
-use borrow.Author.Rules.{rules}
-use borrow.Author.Tests.{not-true, not-false}
 use Rattle.submission.specs.Reading.{leaders_from}
 use Rattle.submission_parts.proofs.Inside.{leaders-inside}
 use Rattle.submission_quorums.proofs.Quorums.{leaders-fail, leaders-hold}

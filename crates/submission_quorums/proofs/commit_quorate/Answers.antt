@@ -1,7 +1,6 @@
 -- The commit certificate is the definition's, and so are its signers.
 use mathlib.Core.Path.{sym, ◌∙◌}
 use Rattle.submission_quorums.proofs.Quorums.{commit-signers, no-signers}
-use borrow.Author.Rules.{rules}
 use Rattle.submission_quorums.proofs.commit_quorate.Goals as goal
 
 pub returns-in_default : goal.returns-in_default

@@ -1,12 +1,6 @@
 -- One certificate a turn: those that are left give what all of them give, and end inside.
-use mathlib.Core.Path.{◌≡◌, refl, sym, ◌∙◌}
-use Prim.Native.Nat.{◌≤◌}
+use mathlib.Core.Path.{refl, sym, ◌∙◌}
 use native.Mathlib.Omega.{arith}
-use borrow.Author.Rules.{rules}
-use Rattle.refusal.specs.Checks.{every}
-use Rattle.submission.specs.Reading.{certificates_end}
-use Rattle.submission_quorums.specs.Signers.{leader_masks}
-use Rattle.submission.specs.Validate.{quorate}
 use Rattle.submission.proofs.Certificates.{certificates-from}
 use Rattle.submission_quorums.proofs.Quorums.{never-refused, too_few, enough, all-enough}
 use mathlib.Core.Path.{ap}

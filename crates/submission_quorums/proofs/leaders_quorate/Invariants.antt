@@ -1,14 +1,10 @@
 -- One certificate a turn: those that are left give what all of them give, and end inside.
-use mathlib.Core.Path.{◌≡◌, refl, sym, ◌∙◌}
+use mathlib.Core.Path.{◌≡◌}
 use Prim.Native.Nat.{◌≤◌}
-use native.Mathlib.Omega.{arith}
-use borrow.Author.Rules.{rules}
 use Rattle.refusal.specs.Checks.{every}
 use Rattle.submission.specs.Reading.{certificates_end}
 use Rattle.submission_quorums.specs.Signers.{leader_masks}
 use Rattle.submission.specs.Validate.{quorate}
-use Rattle.submission.proofs.Certificates.{certificates-from}
-use Rattle.submission_quorums.proofs.Quorums.{never-refused, too_few, enough, all-enough}
 use Rattle.submission_quorums.proofs.leaders_quorate.Given as goal
 
 abbrev pub invariant-loop-left : goal.invariant-loop-left

@@ -6,7 +6,6 @@ use Rattle.lm_format.proofs.Forms.{shifted_one}
 use Rattle.roster.specs.Roster.{quorum}
 use Rattle.refusal.proofs.Laws.{first_fails, first_holds, all_one}
 use Rattle.submission.specs.Validate.{quorate}
-use borrow.Author.Rules.{rules}
 use Rattle.submission_quorums.proofs.mask_quorate.Goals as goal
 
 pub returns-then-mask-quorum : goal.returns-then-mask-quorum

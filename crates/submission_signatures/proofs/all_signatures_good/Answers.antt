@@ -1,6 +1,5 @@
 -- The votes first, then stamps and receipts.
 use mathlib.Core.Path.{sym, ◌∙◌}
-use borrow.Author.Tests.{not-true, not-false}
 use Rattle.submission_parts.proofs.Shapes.{leader-count, stamp-count}
 use Rattle.submission_signatures.proofs.Fifteen.{parts, first_fails, first_holds}
 use Rattle.submission_signatures.proofs.all_signatures_good.Goals as goal

@@ -1,8 +1,6 @@
 -- The stamps first; without a commit certificate there are no receipts, with one its pointer is that of the committed records.
 use mathlib.Core.Path.{sym, ap, ◌∙◌}
 use mathlib.Core.List.{[]}
-use borrow.Author.Rules.{rules}
-use borrow.Author.Tests.{not-true, not-false}
 use Rattle.log_chain.specs.Log.{with_terms, pointer}
 use Rattle.submission.specs.Reading.{view}
 use Rattle.submission_parts.proofs.Commits.{absent-says, found-says}

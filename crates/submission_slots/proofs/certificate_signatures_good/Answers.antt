@@ -1,15 +1,11 @@
 -- One bit of the mask a turn: the signatures of the replicas that are left give what all of them give. A replica's key lies inside, since no bit
 -- stands above replica n.
 use mathlib.Core.Path.{◌≡◌}
-use Prim.Native.Nat.{◌+◌, ◌-◌, ◌*◌, ◌^◌, ◌≤◌, ◌<◌}
+use Prim.Native.Nat.{◌+◌, ◌-◌}
 use native.Mathlib.Omega.{arith}
-use lib.Count.{ones}
-use lib.ListN.{length, drop}
 use Rattle.roster.specs.Roster.{replicas}
-use Rattle.roster.specs.Masks.{replicas_of}
 use Rattle.roster.proofs.Accepted.{key-inside}
-use Rattle.submission_slots.specs.Signatures.{good_all}
-use Rattle.submission_slots.proofs.Signed.{good_from, good_from-all, absent, wrong, right, none_left, replica-inside, half_inside, room-one, room-none}
+use Rattle.submission_slots.proofs.Signed.{good_from-all, absent, wrong, right, none_left, replica-inside, half_inside, room-one, room-none}
 use mathlib.Core.Path.{ap}
 use mathlib.Core.Bool.{not}
 use Rattle.submission_slots.proofs.certificate_signatures_good.Goals as goal

@@ -2,14 +2,12 @@
 -- stands above replica n.
 use mathlib.Core.Path.{◌≡◌}
 use Prim.Native.Nat.{◌+◌, ◌-◌, ◌*◌, ◌^◌, ◌≤◌, ◌<◌}
-use native.Mathlib.Omega.{arith}
 use lib.Count.{ones}
 use lib.ListN.{length, drop}
 use Rattle.roster.specs.Roster.{replicas}
 use Rattle.roster.specs.Masks.{replicas_of}
-use Rattle.roster.proofs.Accepted.{key-inside}
 use Rattle.submission_slots.specs.Signatures.{good_all}
-use Rattle.submission_slots.proofs.Signed.{good_from, good_from-all, absent, wrong, right, none_left, replica-inside, half_inside, room-one, room-none}
+use Rattle.submission_slots.proofs.Signed.{good_from}
 use Rattle.submission_slots.proofs.certificate_signatures_good.Given as goal
 
 abbrev pub invariant-loop-k : goal.invariant-loop-k

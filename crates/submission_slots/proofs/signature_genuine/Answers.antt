@@ -4,7 +4,6 @@ use mathlib.Core.List.{List}
 use Prim.Native.Nat.{ℕ}
 use Rattle.lms.specs.Check.{answer}
 use Rattle.submission_slots.proofs.Signed.{is-good, is-bad, not-long}
-use borrow.Author.Rules.{rules}
 use Rattle.submission_slots.proofs.signature_genuine.Goals as goal
 
 pub returns-in-Good : goal.returns-in-Good

@@ -7,7 +7,6 @@ use lib.Dec.{leb}
 use Rattle.refusal.proofs.Laws.{first_fails, first_holds, all_one}
 use Rattle.submission.specs.Trailer.{record_count}
 use Rattle.submission.specs.Validate.{record_most, leader_most, counted}
-use borrow.Author.Rules.{rules}
 use Rattle.submission_trailer.proofs.counts_in_range.Goals as goal
 
 pub returns-then-record_count-gt-RECORD_MOST : goal.returns-then-record_count-gt-RECORD_MOST

@@ -6,7 +6,6 @@ use Rattle.words.proofs.Same.{same_test}
 use Rattle.roster.specs.Roster.{name_size, cluster}
 use Rattle.submission.specs.Trailer.{name}
 use Rattle.submission.specs.Validate.{named}
-use borrow.Author.Rules.{rules}
 use Rattle.submission_trailer.proofs.name_matches.Goals as goal
 
 pub returns : goal.returns

@@ -3,7 +3,6 @@ use mathlib.Core.Path.{ap}
 use Prim.Native.Nat.{ℕ}
 use lib.Dec.{eqb}
 use Rattle.submission.specs.Validate.{versioned}
-use borrow.Author.Rules.{rules}
 use Rattle.submission_trailer.proofs.version_known.Goals as goal
 
 pub returns : goal.returns

@@ -4,7 +4,6 @@ use Prim.Native.Nat.{ℕ, ◌+◌, ◌*◌}
 use Rattle.words.specs.BigEndian.{number_at}
 use Rattle.roster.specs.Roster.{name_size}
 use Rattle.submission.specs.Trailer.{word}
-use borrow.Author.Rules.{rules}
 use Rattle.submission_trailer.proofs.word.Goals as goal
 
 pub returns : goal.returns

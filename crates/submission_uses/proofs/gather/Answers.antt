@@ -2,7 +2,6 @@
 use mathlib.Core.Path.{sym, ap, ◌∙◌}
 use mathlib.Core.List.{[]}
 use native.Mathlib.Omega.{arith}
-use borrow.Author.Rules.{rules}
 use Rattle.log_chain.specs.Log.{with_terms, pointer}
 use Rattle.submission.specs.Reading.{view}
 use Rattle.submission_parts.proofs.Commits.{absent-says, found-says}
@@ -35,8 +34,11 @@ returns-in_default c =
     let a = c.args in
     let p = c.requires in
     let known = p.0.counted.laid.known in
-    let absent = absent-says _ _ _ (sym c.commit_part.ensures ∙ c.in_default.is) in record { few = omega (arith, c.add_stamps-stamped.ensures.few, c.add_votes-voted.ensures.few); uses = without-receipt _ a.shape.size a.k (view a.shape.width a.shape.size a.s.now) p.0.counted.count (stamp-count _ _ known ∙ sym (leader-count _ _ known))
-          (entry_uses a.n a.buffer.now) c.add_votes-voted.ensures.uses c.add_stamps-stamped.ensures.uses absent }
+    let absent = absent-says _ _ _ (sym c.commit_part.ensures ∙ c.in_default.is) in record {
+      few = omega (arith, c.add_stamps-stamped.ensures.few, c.add_votes-voted.ensures.few);
+      uses = without-receipt _ a.shape.size a.k (view a.shape.width a.shape.size a.s.now) p.0.counted.count (stamp-count _ _ known ∙ sym (leader-count _ _ known))
+          (entry_uses a.n a.buffer.now) c.add_votes-voted.ensures.uses c.add_stamps-stamped.ensures.uses absent;
+    }
 
 pub add_receipt-requires : goal.add_receipt-requires
 add_receipt-requires c =
@@ -61,6 +63,9 @@ returns c =
     let p = c.requires in
     let known = p.0.counted.laid.known in
     let put = c.add_receipt in
-    let told = found-says _ _ _ (sym c.commit_part.ensures ∙ c.in-Found.is) in record { few = omega (arith, c.add_stamps-stamped.ensures.few, c.add_votes-voted.ensures.few, put.ensures.few); uses = with-receipt _ a.shape.size a.k (view a.shape.width a.shape.size a.s.now) p.0.counted.count (stamp-count _ _ known ∙ sym (leader-count _ _ known))
+    let told = found-says _ _ _ (sym c.commit_part.ensures ∙ c.in-Found.is) in record {
+      few = omega (arith, c.add_stamps-stamped.ensures.few, c.add_votes-voted.ensures.few, put.ensures.few);
+      uses = with-receipt _ a.shape.size a.k (view a.shape.width a.shape.size a.s.now) p.0.counted.count (stamp-count _ _ known ∙ sym (leader-count _ _ known))
           (entry_uses a.n a.buffer.now) c.add_votes-voted.ensures.uses c.add_stamps-stamped.ensures.uses told.2
-          (rw (known-records _ _ known) at put.ensures.uses) }
+          (rw (known-records _ _ known) at put.ensures.uses);
+    }

@@ -6,7 +6,6 @@ use native.Mathlib.Omega.{arith}
 use lib.Count.{ones, ones-le}
 use Rattle.submission_uses.specs.Signed.{ones_below, signature_place}
 use Rattle.submission_uses.proofs.Places.{ones_below_lem}
-use borrow.Author.Rules.{rules}
 use Rattle.submission_uses.proofs.signature_place.Goals as goal
 
 few : (size mask j : ℕ) → mask ≤ 65535 → j ≤ ones mask → size * j ≤ size * 16

@@ -6,7 +6,6 @@ use lib.Dec.{eqb}
 use Rattle.submission.specs.Reading.{commit_end}
 use Rattle.submission_parts.proofs.Readings.{no-commit-passes, commit-says}
 use Rattle.submission_parts.proofs.Standing.{commit-elsewhere, commit-none, commit-passes, commit-ends}
-use borrow.Author.Rules.{rules}
 use Rattle.submission_parts.proofs.layout.commit_stands.Goals as goal
 
 pub returns-then-from-back : goal.returns-then-from-back

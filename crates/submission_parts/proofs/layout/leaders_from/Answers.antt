@@ -1,6 +1,5 @@
 -- The records have the bytes of the definition.
 use native.Mathlib.Omega.{arith}
-use borrow.Author.Rules.{rules}
 use Rattle.submission_parts.proofs.Inside.{records-le}
 use Rattle.submission_parts.proofs.layout.leaders_from.Goals as goal
 

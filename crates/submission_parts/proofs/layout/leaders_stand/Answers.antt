@@ -4,7 +4,6 @@ use native.Mathlib.Omega.{arith}
 use Rattle.submission_parts.proofs.Inside.{stamps-le}
 use Rattle.submission_parts.proofs.Readings.{beyond-passes, place-says}
 use Rattle.submission_parts.proofs.Standing.{leaders-pass, stamps-elsewhere, stamps-here}
-use borrow.Author.Rules.{rules}
 use Rattle.submission_parts.proofs.layout.leaders_stand.Goals as goal
 
 pub returns-in_default : goal.returns-in_default

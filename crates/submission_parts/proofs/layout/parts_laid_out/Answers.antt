@@ -9,7 +9,6 @@ use Rattle.submission.specs.Reading.{leaders_from}
 use Rattle.submission_parts.specs.Parts.{leader_tests}
 use Rattle.submission_parts.proofs.Inside.{records-le}
 use Rattle.submission_parts.proofs.Standing.{records-elsewhere, leaders-elsewhere, leaders-here}
-use borrow.Author.Rules.{rules}
 use Rattle.submission_parts.proofs.layout.parts_laid_out.Goals as goal
 
 pub returns-then-distance-end : goal.returns-then-distance-end

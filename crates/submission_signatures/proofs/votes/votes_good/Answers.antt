@@ -1,17 +1,6 @@
 -- One leader certificate a turn: the votes of those that are left give what all of them give.
-use mathlib.Core.Path.{◌≡◌}
-use mathlib.Core.Bool.{true}
-use mathlib.Core.List.{flat_map}
-use Prim.Native.Nat.{◌≤◌}
 use native.Mathlib.Omega.{arith}
-use lib.ListN.{length}
-use Rattle.refusal.specs.Checks.{every}
-use Rattle.roster.specs.Roster.{cluster, replicas}
-use Rattle.log_chain.specs.Log.{with_terms}
-use Rattle.submission.specs.Reading.{certificates, certificates_end, view}
-use Rattle.submission.specs.Validate.{genuine}
-use Rattle.submission_signatures.specs.Votes.{ballots}
-use Rattle.submission_signatures.proofs.Quorate.{quorate_all}
+use Rattle.roster.specs.Roster.{replicas}
 use Rattle.submission.proofs.Certificates.{rest-inside, first-inside}
 use Rattle.submission_parts.proofs.Shapes.{known-certificates, leaders-room}
 use Rattle.submission_signatures.proofs.Facts.{leaders-quorate}

@@ -3,7 +3,6 @@ use mathlib.Core.Path.{◌≡◌}
 use mathlib.Core.Bool.{true}
 use mathlib.Core.List.{flat_map}
 use Prim.Native.Nat.{◌≤◌}
-use native.Mathlib.Omega.{arith}
 use lib.ListN.{length}
 use Rattle.refusal.specs.Checks.{every}
 use Rattle.roster.specs.Roster.{cluster, replicas}
@@ -12,10 +11,6 @@ use Rattle.submission.specs.Reading.{certificates, certificates_end, view}
 use Rattle.submission.specs.Validate.{genuine}
 use Rattle.submission_signatures.specs.Votes.{ballots}
 use Rattle.submission_signatures.proofs.Quorate.{quorate_all}
-use Rattle.submission.proofs.Certificates.{rest-inside, first-inside}
-use Rattle.submission_parts.proofs.Shapes.{known-certificates, leaders-room}
-use Rattle.submission_signatures.proofs.Facts.{leaders-quorate}
-use Rattle.submission_signatures.proofs.Turns.{first-signers, rest-quorums, votes-fail, votes-next, votes-done}
 use Rattle.submission_signatures.proofs.votes.votes_good.Given as goal
 
 abbrev pub invariant-loop-left : goal.invariant-loop-left

@@ -4,9 +4,7 @@ use mathlib.Core.List.{◌++◌}
 use Prim.Native.Nat.{ℕ, ◌+◌, ◌≤◌}
 use native.Mathlib.Omega.{arith}
 use borrow.Author.Rules.{rules}
-use borrow.Author.Tests.{not-true, not-false}
 use lib.ListN.{length}
-use Rattle.words.specs.BigEndian.{number_at}
 use Rattle.words.proofs.Over.{written-inside}
 use Rattle.sha256.specs.Sha256.{bytes_of}
 use Rattle.roster.specs.Roster.{cluster}
@@ -40,8 +38,11 @@ returns-then-not-signer c =
     let a = c.args in
     let p = c.requires in
     let mask = c.u16_at-mask.ensures.0 in
-    let unsigned = ap (λ (m : ℕ). signer m a.k) (sym mask) ∙ sym c.signer.ensures ∙ c.if-not-signer.true in record { few = omega arith; uses = no_entry _ _ (no-receipt a.roster.now a.s.now a.shape.width a.shape.size a.at a.shape.records a.k p.5 p.6 p.1 (bytes_of a.pointer)
-          (commit-within _ _ _ p.0.counted.laid _ p.3 p.0.commit) p.4 unsigned) }
+    let unsigned = ap (λ (m : ℕ). signer m a.k) (sym mask) ∙ sym c.signer.ensures ∙ c.if-not-signer.true in record {
+      few = omega arith;
+      uses = no_entry _ _ (no-receipt a.roster.now a.s.now a.shape.width a.shape.size a.at a.shape.records a.k p.5 p.6 p.1 (bytes_of a.pointer)
+          (commit-within _ _ _ p.0.counted.laid _ p.3 p.0.commit) p.4 unsigned);
+    }
 
 pub overflow_add-at-2 : goal.overflow_add-at-2
 unfolding commit_end
@@ -112,7 +113,10 @@ returns c =
     let message = padded_put _ _ _ (omega (arith, room, done.size, written-inside _ _ _ _ done.size done.bytes)) done.size done.bytes
     ∙ ap₂ (λ (t i : ℕ). padded (place_statement 2 (cluster roster) w t i (bytes_of a.pointer))) term index in
     let place = c.signature_place-place.ensures ∙ ap (λ (m : ℕ). signature_place m a.k a.shape.size (a.at + 6)) mask in
-    let leaf = c.u32_at-leaf.ensures.0 ∙ ap (leaf_at s) place in record { few = omega (arith, c.add_use.ensures.count); uses = c.add_use.ensures.uses
+    let leaf = c.u32_at-leaf.ensures.0 ∙ ap (leaf_at s) place in record {
+      few = omega (arith, c.add_use.ensures.count);
+      uses = c.add_use.ensures.uses
           ∙ ap (λ z. entry_uses a.n a.buffer.now ++ z)
           (entry_of _ _ _ _ _ (own-receipt roster s w a.shape.size a.at a.shape.records a.k p.5 p.6 p.1 (bytes_of a.pointer)
-          (commit-within _ _ _ p.0.counted.laid _ p.3 p.0.commit) p.4 signed) leaf message) }
+          (commit-within _ _ _ p.0.counted.laid _ p.3 p.0.commit) p.4 signed) leaf message);
+    }

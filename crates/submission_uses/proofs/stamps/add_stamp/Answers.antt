@@ -1,7 +1,7 @@
 -- The candidate's stamp is put, with the certificate's term.
 use mathlib.Core.Path.{◌≡◌, sym, ap, ◌∙◌}
 use mathlib.Core.List.{◌++◌}
-use Prim.Native.Nat.{ℕ, ◌+◌}
+use Prim.Native.Nat.{ℕ}
 use native.Mathlib.Omega.{arith}
 use borrow.Author.Rules.{rules}
 use lib.ListN.{length}
@@ -56,7 +56,10 @@ returns c =
     let room : length c.put_place_statement-length.new.out ≡ statement_most = search rules in
     let done = c.put_place_statement-length.ensures in
     let message = padded_put _ _ _ (omega (arith, room, done.size, written-inside _ _ _ _ done.size done.bytes)) done.size done.bytes
-    ∙ ap (λ (t : ℕ). padded (place_statement 1 (cluster roster) a.width t a.stamp.index (bytes_of a.stamp.pointer))) c.number_at-term.ensures.0 in record { few = omega (arith, c.add_use.ensures.count); uses = c.add_use.ensures.uses
+    ∙ ap (λ (t : ℕ). padded (place_statement 1 (cluster roster) a.width t a.stamp.index (bytes_of a.stamp.pointer))) c.number_at-term.ensures.0 in record {
+      few = omega (arith, c.add_use.ensures.count);
+      uses = c.add_use.ensures.uses
           ∙ ap (λ z. entry_uses a.n a.buffer.now ++ z)
           (entry_of _ _ _ _ _ (own-stamp roster s a.width a.k a.stamp (sym c.u16_at.ensures.0 ∙ c.if-u16_at-k.false))
-          c.u32_at-leaf.ensures.0 message) }
+          c.u32_at-leaf.ensures.0 message);
+    }

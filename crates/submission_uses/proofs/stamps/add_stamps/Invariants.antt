@@ -1,26 +1,16 @@
 -- One leader certificate a turn, with the next one's last index and pointer, which are its term's last record; the last term's are the log's.
-use mathlib.Core.Path.{◌≡◌, refl, sym, ap, ◌∙◌}
-use mathlib.Core.List.{[], ◌++◌, map}
-use Prim.Native.Nat.{◌+◌, ◌-◌, ◌*◌, ◌≤◌}
-use native.Mathlib.Omega.{arith}
+use mathlib.Core.Path.{◌≡◌}
+use mathlib.Core.List.{◌++◌, map}
+use Prim.Native.Nat.{◌+◌, ◌*◌, ◌≤◌}
 use lib.ListN.{length}
 use Rattle.lm_format.specs.Leaf.{leaf_size}
-use Rattle.log_chain.specs.Log.{with_terms, pointer}
 use Rattle.log_chain.specs.Records.{records_of}
-use Rattle.log_chain.specs.Runs.{runs}
-use Rattle.log_chain.proofs.Linked.{linked_runs}
-use Rattle.log_chain.proofs.Records.{length-records}
 use Rattle.submission.specs.View.{leads, stamp_of}
-use Rattle.submission.specs.Reading.{ballot_size, certificates_end, view}
+use Rattle.submission.specs.Reading.{certificates_end, view}
 use Rattle.submission.specs.Validate.{uses}
-use Rattle.submission.proofs.Certificates.{rest-inside, first-inside}
-use Rattle.submission.proofs.Linked.{leads_from}
-use Rattle.submission_parts.proofs.Shapes.{known-leads, run-count, few-records, leaders-room, stamps-room as stamps-inside}
-use Rattle.submission_signatures.proofs.Turns.{fields-room, next-fields, stamps-room}
-use Rattle.submission_signatures.proofs.StampsLeft.{not_last, is_last}
 use Rattle.submission_leaves.specs.Entries.{padded_use, entry_uses}
 use Rattle.submission_uses.specs.Signed.{slot_use_in}
-use Rattle.submission_uses.proofs.StampUses.{StampsToPut, none-to-put, checked, stamp-put}
+use Rattle.submission_uses.proofs.StampUses.{StampsToPut}
 use Rattle.submission_uses.proofs.stamps.add_stamps.Given as goal
 
 abbrev pub invariant-loop-left : goal.invariant-loop-left

@@ -1,11 +1,9 @@
 -- A signer's vote is put, with the leaf of its own signature.
 use mathlib.Core.Path.{◌≡◌, sym, ap, ◌∙◌}
-use mathlib.Core.Bool.{true, false}
 use mathlib.Core.List.{◌∷◌, ◌++◌}
 use Prim.Native.Nat.{ℕ, ◌+◌, ◌-◌, ◌<◌}
 use native.Mathlib.Omega.{arith}
 use borrow.Author.Rules.{rules}
-use borrow.Author.Tests.{not-true, not-false}
 use lib.ListN.{length, get_or, take, drop, length-take}
 use Rattle.words.specs.BigEndian.{number_at}
 use Rattle.words.proofs.Over.{written-inside}
@@ -106,6 +104,9 @@ returns c =
     ∙ ap (λ (j : ℕ). padded (3 ∷ cluster roster ++ take j (drop a.at s))) count in
     let place = c.signature_place-place.ensures
     ∙ (λ i. signature_place (mask i) a.k a.size (a.at + fields i + 2)) in
-    let leaf = c.u32_at-leaf.ensures.0 ∙ ap (leaf_at s) place in record { few = omega (arith, c.add_use.ensures.count); uses = c.add_use.ensures.uses
+    let leaf = c.u32_at-leaf.ensures.0 ∙ ap (leaf_at s) place in record {
+      few = omega (arith, c.add_use.ensures.count);
+      uses = c.add_use.ensures.uses
           ∙ ap (λ z. entry_uses a.n a.buffer.now ++ z)
-          (entry_of _ _ _ _ _ (own-vote roster s a.width a.size a.at a.k p.6 p.7 p.2 (bytes_each s each) (omega (arith, head, p.4)) signed) leaf message) }
+          (entry_of _ _ _ _ _ (own-vote roster s a.width a.size a.at a.k p.6 p.7 p.2 (bytes_each s each) (omega (arith, head, p.4)) signed) leaf message);
+    }

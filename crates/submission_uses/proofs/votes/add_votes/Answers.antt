@@ -1,16 +1,9 @@
 -- One leader certificate a turn.
-use mathlib.Core.Path.{◌≡◌, refl, ◌∙◌}
-use mathlib.Core.List.{◌++◌, map, flat_map}
-use Prim.Native.Nat.{◌+◌, ◌≤◌}
+use mathlib.Core.Path.{refl, ◌∙◌}
 use native.Mathlib.Omega.{arith}
-use lib.ListN.{length}
-use Rattle.submission.specs.Reading.{certificates, certificates_end, view}
-use Rattle.submission.specs.Validate.{uses}
 use Rattle.submission.proofs.Certificates.{rest-inside, first-inside}
 use Rattle.submission_parts.proofs.Shapes.{known-certificates, leaders-room}
-use Rattle.submission_signatures.specs.Votes.{ballots}
-use Rattle.submission_leaves.specs.Entries.{padded_use, entry_uses}
-use Rattle.submission_uses.specs.Signed.{slot_use_in}
+use Rattle.submission_leaves.specs.Entries.{entry_uses}
 use Rattle.submission_uses.proofs.Gathered.{votes-next, votes-done}
 use Rattle.submission_uses.proofs.votes.add_votes.Goals as goal
 
