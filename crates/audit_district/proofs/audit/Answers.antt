@@ -46,13 +46,12 @@ returns-then-report-lengths c =
     record { number = r; bytes = unwritten _ _ _ _ r (λ z. omega (arith, z)) }
 
 pub write-requires : goal.write-requires
-write-requires c =
-    (
-      sym c.validate-refused.ensures ∙ c.if-refused-ne0.false,
-      met c.count_in_range.ensures (ap not c.if-not-count_in_range.false),
-      met c.lengths_add_up.ensures (ap not c.if-not-lengths_add_up.false),
-      search rules,
-    )
+write-requires c = (
+  sym c.validate-refused.ensures ∙ c.if-refused-ne0.false,
+  met c.count_in_range.ensures (ap not c.if-not-count_in_range.false),
+  met c.lengths_add_up.ensures (ap not c.if-not-lengths_add_up.false),
+  search rules,
+)
 
 pub returns : goal.returns
 returns c =

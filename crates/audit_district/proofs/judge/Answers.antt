@@ -1,8 +1,8 @@
 -- One submission after the other: what has been judged is the first i, and where the next begins is what their lengths add up to.
 use mathlib.Core.Path.{◌≡◌, refl, sym, ap, ◌∙◌}
 use mathlib.Core.List.Memᴰ
-use mathlib.Core.List.{map, flat_map, Memᴰ, sum}
-use Prim.Native.Nat.{ℕ, suc, ◌+◌, ◌-◌, ◌≤◌, ◌<◌}
+use mathlib.Core.List.{map, flat_map, sum}
+use Prim.Native.Nat.{ℕ, suc, ◌+◌, ◌≤◌, ◌<◌}
 use native.Mathlib.Omega.{arith}
 use borrow.Author.Rules.{rules}
 use lib.ListN.{length, take, drop, get_or}
@@ -14,8 +14,7 @@ use Rattle.submission_checks.specs.Pointers.{PointersHanded}
 use Rattle.district_parts.specs.Parts.{parts, total, count_most}
 use Rattle.district_parts.proofs.Parts.{parts-length, sum_next, counted-most}
 use Rattle.district.specs.District.{accepted_from, accepted, number_bytes}
-use Rattle.district_pairs.specs.declared.Part.{Part}
-use Rattle.district_pairs.specs.Entries.{entry_of, parts_of, entries_of, Fit, Room}
+use Rattle.district_pairs.specs.Entries.{entry_of, entries_of}
 use Rattle.words.proofs.Laws.{part_from}
 use Rattle.audit_district.proofs.Judged.{this, room_of, number_put, entries_next, fits_next}
 use Rattle.audit_district.proofs.judge.Goals as goal

@@ -1,23 +1,13 @@
 -- One submission after the other: what has been judged is the first i, and where the next begins is what their lengths add up to.
-use mathlib.Core.Path.{◌≡◌, refl, sym, ap, ◌∙◌}
-use mathlib.Core.List.Memᴰ
-use mathlib.Core.List.{map, flat_map, Memᴰ, sum}
-use Prim.Native.Nat.{ℕ, suc, ◌+◌, ◌-◌, ◌≤◌, ◌<◌}
-use native.Mathlib.Omega.{arith}
-use borrow.Author.Rules.{rules}
-use lib.ListN.{length, take, drop, get_or}
-use lib.Seq.{take_all, sets, length-sets}
-use Rattle.words.specs.BigEndian.{be}
+use mathlib.Core.Path.{◌≡◌}
+use mathlib.Core.List.{Memᴰ}
+use Prim.Native.Nat.{◌-◌, ◌≤◌}
+use lib.ListN.{length, take}
 use Rattle.words.specs.Over.{over}
-use Rattle.submission.specs.Validate.{form_of, view_of, validate}
-use Rattle.submission_checks.specs.Pointers.{PointersHanded}
-use Rattle.district_parts.specs.Parts.{parts, total, count_most}
-use Rattle.district_parts.proofs.Parts.{parts-length, sum_next, counted-most}
-use Rattle.district.specs.District.{accepted_from, accepted, number_bytes}
+use Rattle.district_parts.specs.Parts.{parts, total}
+use Rattle.district.specs.District.{accepted_from, number_bytes}
 use Rattle.district_pairs.specs.declared.Part.{Part}
-use Rattle.district_pairs.specs.Entries.{entry_of, parts_of, entries_of, Fit, Room}
-use Rattle.words.proofs.Laws.{part_from}
-use Rattle.audit_district.proofs.Judged.{this, room_of, number_put, entries_next, fits_next}
+use Rattle.district_pairs.specs.Entries.{parts_of, entries_of, Fit, Room}
 use Rattle.audit_district.proofs.judge.Given as goal
 
 abbrev pub invariant-loop-i : goal.invariant-loop-i

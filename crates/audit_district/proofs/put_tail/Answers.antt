@@ -1,5 +1,4 @@
 -- The three stand one after the other.
-use borrow.Author.Rules.{rules}
 use Rattle.audit_district.proofs.Tail.{tail_parts}
 use Rattle.audit_district.proofs.put_tail.Goals as goal
 

@@ -1,7 +1,6 @@
 -- The numbers while judging, and behind them what the pairs of the accepted submissions show.
 use mathlib.Core.Path.{ap, ◌∙◌}
 use native.Mathlib.Omega.{arith}
-use borrow.Author.Rules.{rules}
 use Rattle.district.specs.District.{pairs, shown}
 use Rattle.audit_district.proofs.Tail.{report_whole}
 use Rattle.audit_district.proofs.write.Goals as goal

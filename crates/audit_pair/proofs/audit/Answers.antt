@@ -1,6 +1,5 @@
 -- A short buffer first, then the report.
 use native.Mathlib.Omega.{arith}
-use borrow.Author.Rules.{rules}
 use borrow.Author.Tests.{lt-ltb, le-ltb}
 use lib.ListN.{length}
 use Rattle.report.specs.Report.{report_size, short, audit_number, report_after}

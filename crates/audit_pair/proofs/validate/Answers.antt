@@ -1,6 +1,5 @@
 -- Each number that is not 0 ends the checks; where both are 0 the pointers are the submissions'.
 use mathlib.Core.Path.{sym, ◌∙◌}
-use borrow.Author.Rules.{rules}
 use Rattle.audit_pair.proofs.Outcomes.{roster-refused, first-refused, second-refused, both-accepted, none-handed, both-handed}
 use Rattle.audit_pair.proofs.validate.Goals as goal
 

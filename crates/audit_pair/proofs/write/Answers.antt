@@ -1,6 +1,5 @@
 -- The report is that of the outcome.
 use mathlib.Core.Path.{sym, ◌∙◌}
-use borrow.Author.Rules.{rules}
 use Rattle.report_bytes.specs.Answers.{accepted}
 use Rattle.audit_pair.specs.Outcomes.{answer_of}
 use Rattle.audit_pair.proofs.Outcomes.{accepted-says}

@@ -1,6 +1,5 @@
 -- Both stand inside the buffer, and are accepted, with their pointers.
 use mathlib.Core.Path.{ap, ◌∙◌}
-use borrow.Author.Rules.{rules}
 use Rattle.submission.specs.Validate.{validate}
 use Rattle.district.specs.District.{entry, pair, found}
 use Rattle.district_pairs.specs.Entries.{entry_of}

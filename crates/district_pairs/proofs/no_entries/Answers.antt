@@ -1,7 +1,6 @@
 -- None of nine.
 use mathlib.Core.Path.{refl}
 use native.Mathlib.Nat.{le_refl}
-use borrow.Author.Rules.{rules}
 use Rattle.district_pairs.specs.Entries.{parts_of}
 use Rattle.district_pairs.proofs.no_entries.Goals as goal
 

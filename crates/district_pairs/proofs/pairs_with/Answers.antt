@@ -6,7 +6,6 @@ use native.Mathlib.Omega.{arith}
 use borrow.Author.Rules.{rules}
 use lib.ListN.{length}
 use Rattle.district.specs.District.{entry}
-use Rattle.district_pairs.specs.declared.Entries.{Entries}
 use Rattle.district_pairs.specs.Entries.{entry_of}
 use Rattle.district_pairs.proofs.Walk.{part_at, with_one, with_none, with-turn, with_all}
 use Rattle.district_pairs.proofs.pairs_with.Goals as goal

@@ -1,14 +1,9 @@
 -- From the last submission down to the one after i: what the pairs with those from `j` on show, before the pairs of the later ones.
-use mathlib.Core.Path.{◌≡◌, ap, ◌∙◌}
-use Prim.Native.Nat.{suc, ◌-◌, ◌≤◌, ◌<◌}
-use native.Mathlib.Nat.{le_refl}
-use native.Mathlib.Omega.{arith}
-use borrow.Author.Rules.{rules}
-use lib.ListN.{length}
-use Rattle.district.specs.District.{entry}
+use mathlib.Core.Path.{◌≡◌}
+use Prim.Native.Nat.{◌≤◌, ◌<◌}
 use Rattle.district_pairs.specs.declared.Entries.{Entries}
 use Rattle.district_pairs.specs.Entries.{entry_of}
-use Rattle.district_pairs.proofs.Walk.{part_at, with_one, with_none, with-turn, with_all}
+use Rattle.district_pairs.proofs.Walk.{with_one}
 use Rattle.district_pairs.proofs.pairs_with.Given as goal
 
 abbrev pub invariant-loop-j : goal.invariant-loop-j

@@ -3,7 +3,6 @@ use mathlib.Core.Path.{◌≡◌, sym, ap, ◌∙◌}
 use mathlib.Core.List.{List, [], ◌∷◌, ◌++◌, append-nil}
 use Prim.Native.Nat.{ℕ, suc, ◌+◌, ◌≤◌, ◌<◌}
 use native.Mathlib.Omega.{arith}
-use borrow.Author.Rules.{rules}
 use borrow.Author.Tests.{eq-eqb, ne_eqb}
 use lib.ListN.{length, take, length-set}
 use lib.Seq.{take-suc-set}
@@ -28,5 +27,8 @@ returns c =
     let inside : a.entries.count < length a.entries.parts = omega (arith, room.places, room.taken, c.requires.1) in
     let part : ℕ → Part = λ k. record { position = k; start = a.start; size = a.size; pointers = a.validated.pointers } in
     let behind : ℕ → List Part = λ k. take a.entries.count a.entries.parts ++ (part k ∷ []) in
-    let fewer : a.entries.count + 1 ≤ suc a.i = omega (arith, room.taken) in record { parts = rw (eq-eqb a.validated.number 0 c.if-validated-ne0.false, next)
-          (take-suc-set a.entries.parts a.entries.count (part (a.i + 1)) inside ∙ ap behind place); room = record { places = length-set a.entries.parts a.entries.count (part (a.i + 1)) ∙ room.places; taken = fewer } }
+    let fewer : a.entries.count + 1 ≤ suc a.i = omega (arith, room.taken) in record {
+      parts = rw (eq-eqb a.validated.number 0 c.if-validated-ne0.false, next)
+          (take-suc-set a.entries.parts a.entries.count (part (a.i + 1)) inside ∙ ap behind place);
+      room = record { places = length-set a.entries.parts a.entries.count (part (a.i + 1)) ∙ room.places; taken = fewer };
+    }

@@ -1,5 +1,4 @@
 -- The union takes in the pair's mask, and the fork is the pair's or a later one.
-use borrow.Author.Rules.{rules}
 use Rattle.forensics_charges.specs.Charges.{findings_of}
 use Rattle.district_pairs.specs.Entries.{before}
 use Rattle.district_pairs.proofs.with_pair.Goals as goal
