@@ -24,8 +24,8 @@ fn report_lines(
     text_report::text(report, out)
 }
 
-// Prints the lines of the report of three inputs. That they cannot be written changes nothing: who looks for them
-// sees that they are not there.
+// Prints the lines of the report of three inputs. That they cannot be written changes nothing: who looks for
+// them sees that they are not there.
 fn print(rt: &impl Print, roster: &[u8], first: &[u8], second: &[u8]) {
     let mut out = [0u8; text_report::TEXT_SIZE];
     let n = report_lines(roster, first, second, &mut out);

@@ -44,12 +44,7 @@ pub fn hirelog_lms_check(key: &[u8], message: &[u8], signature: &[u8]) -> LmsAns
 
 // The audit (document 01): the number, and the report in the buffer's first 53 bytes; with number 1, for a
 // buffer below 53 bytes, nothing is written. Demand 3 stands on the number and on the report's own bytes.
-pub fn hirelog_audit(
-    roster: &[u8],
-    first: &[u8],
-    second: &[u8],
-    report: &mut [u8],
-) -> u32
+pub fn hirelog_audit(roster: &[u8], first: &[u8], second: &[u8], report: &mut [u8]) -> u32
     ensures number { result
         ≡ audit_number roster.now first.now second.now
         report.old }
@@ -67,12 +62,7 @@ pub fn hirelog_audit(
 // The audit of a district (document 02, W1): up to nine submissions end to end in one buffer. The number,
 // and with number 0 the first bytes of the report, four more than there are lengths; a refused run writes
 // nothing. Demand 3 stands on the number and on the report's own bytes, over the whole list.
-pub fn hirelog_district(
-    roster: &[u8],
-    buffer: &[u8],
-    lengths: &[u32],
-    report: &mut [u8],
-) -> u32
+pub fn hirelog_district(roster: &[u8], buffer: &[u8], lengths: &[u32], report: &mut [u8]) -> u32
     ensures number { result
         ≡ district_number roster.now buffer.now lengths.now
         report.old }
@@ -90,12 +80,7 @@ pub fn hirelog_district(
 // Assembling a submission (document 02, W3) from a log and a bag of items: the number, and how many of the
 // output's first bytes were written; a refusal writes nothing, and its length is 0. What is written is
 // accepted against the same roster, and has the same log.
-pub fn hirelog_assemble(
-    roster: &[u8],
-    log: &[u8],
-    items: &[u8],
-    output: &mut [u8],
-) -> Written
+pub fn hirelog_assemble(roster: &[u8], log: &[u8], items: &[u8], output: &mut [u8]) -> Written
     ensures number { result.number
         ≡ assemble_number roster.now log.now items.now
         output.old }

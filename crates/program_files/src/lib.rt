@@ -17,8 +17,8 @@ fn open<R: Files>(files: &R, name: &[u8]) -> io::Result<R::File> {
     }
 }
 
-// Reads until `buffer` is full, the file ends or a read fails, and gives how many bytes it put at the start of
-// `buffer`: those that the file had next.
+// Reads until `buffer` is full, the file ends or a read fails, and gives how many bytes it put at the start
+// of `buffer`: those that the file had next.
 fn read_full<F: Read>(file: &mut F, buffer: &mut [u8]) -> usize
     ensures within { result ≤ length buffer.new }
     ensures bytes { Consumes (F.remaining file.old) (F.remaining file.new) (take result buffer.new) }

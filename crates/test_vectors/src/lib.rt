@@ -7,8 +7,8 @@ ghost use Rattle.std.specs.Prelude.{◌≡◌, ◌+◌, ◌<◌, ◌≤◌, leng
 use std::io;
 use std::rt::Files;
 
-// Puts the file at the start of `text`, and gives its length; 0 if the file cannot be opened or read, or is not
-// shorter than `text`.
+// Puts the file at the start of `text`, and gives its length; 0 if the file cannot be opened or read, or is
+// not shorter than `text`.
 pub fn load(files: &impl Files, name: &[u8], text: &mut [u8]) -> usize
     ensures within { result ≤ length text.new }
     ensures taken { result ≡ length (take result text.new) }

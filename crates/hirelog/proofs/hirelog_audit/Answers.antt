@@ -12,5 +12,10 @@ returns c =
     let number = c.audit.ensures.number in
     let bytes = c.audit.ensures.bytes in
     let one : (i : ℕ) → get_or a.first.now i 0 < 256 = λ i. (c.type_inv.first i).fits in
-    let two : (i : ℕ) → get_or a.second.now i 0 < 256 = λ i. (c.type_inv.second i).fits in record { number = number; bytes = bytes; naming = rw (number, bytes) (naming a.roster.now a.first.now a.second.now a.report.now); fairness = rw (number, bytes)
-              (fairness a.roster.now a.first.now a.second.now a.report.now (bytes_each a.first.now one) (bytes_each a.second.now two)) }
+    let two : (i : ℕ) → get_or a.second.now i 0 < 256 = λ i. (c.type_inv.second i).fits in record {
+      number = number;
+      bytes = bytes;
+      naming = rw (number, bytes) (naming a.roster.now a.first.now a.second.now a.report.now);
+      fairness = rw (number, bytes)
+          (fairness a.roster.now a.first.now a.second.now a.report.now (bytes_each a.first.now one) (bytes_each a.second.now two));
+    }

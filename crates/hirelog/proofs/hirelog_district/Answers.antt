@@ -11,5 +11,10 @@ returns c =
     let a = c.args in
     let number = c.audit.ensures.number in
     let bytes = c.audit.ensures.bytes in
-    let each : (i : ℕ) → get_or a.buffer.now i 0 < 256 = λ i. (c.type_inv.buffer i).fits in record { number = number; bytes = bytes; naming = rw (number, bytes) (district-naming a.roster.now a.buffer.now a.lengths.now a.report.now); fairness = rw (number, bytes)
-              (district-fairness a.roster.now a.buffer.now a.lengths.now a.report.now (bytes_each a.buffer.now each)) }
+    let each : (i : ℕ) → get_or a.buffer.now i 0 < 256 = λ i. (c.type_inv.buffer i).fits in record {
+      number = number;
+      bytes = bytes;
+      naming = rw (number, bytes) (district-naming a.roster.now a.buffer.now a.lengths.now a.report.now);
+      fairness = rw (number, bytes)
+          (district-fairness a.roster.now a.buffer.now a.lengths.now a.report.now (bytes_each a.buffer.now each));
+    }
