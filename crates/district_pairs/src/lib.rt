@@ -101,6 +101,7 @@ fn audit_parts(roster: &[u8], buffer: &[u8], a: Part, b: Part) -> Findings
 }
 
 // The fork that stays: that of a pair, or where it has none that of the later ones.
+#[tactic(auto, unfolding(crate::specs::Entries::sooner))]
 fn sooner_fork(fork: Fork, later: Fork) -> Fork
     ensures { result ≡ inner.sooner fork later }
 {
