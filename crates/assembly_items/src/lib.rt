@@ -49,7 +49,12 @@ pub fn read(items: &[u8], at: usize, width: usize, size: usize) -> Option<ItemPl
         return None;
     }
     let replica = words::u16_at(items, at);
-    Some(ItemPlace { replica, statement, signature, next })
+    Some(ItemPlace {
+        replica,
+        statement,
+        signature,
+        next,
+    })
 }
 
 // 19: whether every kind byte is 1, 2 or 3, and the bag does not end inside an item.

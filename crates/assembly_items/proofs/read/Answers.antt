@@ -2,7 +2,6 @@
 use mathlib.Core.Path.{◌≡◌, ◌∙◌}
 use Prim.Native.Nat.{◌+◌}
 use native.Mathlib.Omega.{arith}
-use borrow.Author.Rules.{rules}
 use lib.ListN.{get_or}
 use Rattle.assembly_items.proofs.Items.{reads, no_kind, no_byte, cut_off}
 use Rattle.assembly_items.proofs.read.Goals as goal
