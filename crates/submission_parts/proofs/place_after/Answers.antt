@@ -1,5 +1,5 @@
 -- One certificate a turn: those that are left end where all of them do.
-use mathlib.Core.Path.{◌≡◌, refl, sym, ◌∙◌}
+use mathlib.Core.Path.{◌≡◌, sym, ◌∙◌}
 use Prim.Native.Nat.{◌+◌, ◌-◌}
 use native.Mathlib.Omega.{arith}
 use Rattle.submission_parts.proofs.Readings.{placed, passes, next, arrives}
