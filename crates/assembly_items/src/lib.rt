@@ -9,6 +9,8 @@ ghost use Rattle.assembly.specs.Items as paper;
 ghost use Rattle.submission.specs.Sizes.{statement_most};
 ghost use Rattle.assembly_items.specs.Reader.{item_reading};
 
+use log_chain::Kind;
+
 // Where the statement stands in an item, after the replica's number.
 const STATEMENT_AT: usize = 2;
 
@@ -28,12 +30,14 @@ fn statement_size(width: usize, kind: u8) -> Option<usize>
         (λ s. (s ≡ paper.statement_size width kind) × (0 < s) × (s ≤ statement_most)) }
 {
     let name = log_chain::NAME_AT + roster::NAME_SIZE;
-    match kind {
-        1 => Some(name + width + log_chain::INDEX_SIZE + log_chain::POINTER_SIZE),
-        2 => Some(name + width + log_chain::INDEX_SIZE + log_chain::POINTER_SIZE),
-        3 => Some(name + submission::ballot_size(width)),
-        _ => None,
-    }
+    let Ok(kind) = Kind::try_from(kind) else {
+        return None;
+    };
+    let rest = match kind {
+        Kind::Stamp | Kind::Receipt => width + log_chain::INDEX_SIZE + log_chain::POINTER_SIZE,
+        Kind::Vote => submission::ballot_size(width),
+    };
+    Some(name + rest)
 }
 
 // The item at a place; none where its kind is none or the bag ends inside it.

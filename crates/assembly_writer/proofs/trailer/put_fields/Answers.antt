@@ -16,20 +16,20 @@ pub put_u32-requires : goal.put_u32-requires
 put_u32-requires c =
     let l = c.loop-field in
     let less : l.field-index < field_count = omega arith in
-    omega (arith, part_room _ _ _ c.requires l.field-indexnvariant less, length-be 4 (get_or c.args.fields l.field-index 0))
+    omega (arith, part_room _ _ _ c.requires l.invariant less, length-be 4 (get_or c.args.fields l.field-index 0))
 
 pub overflow_add-at : goal.overflow_add-at
 overflow_add-at c =
     let l = c.loop-field in
     let less : l.field-index < field_count = omega arith in
-    omega (arith, part-inside _ _ _ c.requires l.field-indexnvariant less, length-be 4 (get_or c.args.fields l.field-index 0))
+    omega (arith, part-inside _ _ _ c.requires l.invariant less, length-be 4 (get_or c.args.fields l.field-index 0))
 
 pub loop-field-preserved : goal.loop-field-preserved
 loop-field-preserved c =
     let l = c.loop-field in
     let less : l.field-index < field_count = omega arith in
-    part_put _ _ _ c.requires l.field-indexnvariant less (sym (length-be 4 _))
-    (c.put_u32.ensures ∙ over_first _ _ (part_room _ _ _ c.requires l.field-indexnvariant less))
+    part_put _ _ _ c.requires l.invariant less (sym (length-be 4 _))
+    (c.put_u32.ensures ∙ over_first _ _ (part_room _ _ _ c.requires l.invariant less))
 
 pub shape_of-out : goal.shape_of-out
 shape_of-out c = c.loop-field.invariant.2

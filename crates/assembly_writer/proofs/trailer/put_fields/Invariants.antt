@@ -7,4 +7,4 @@ use Rattle.assembly_writer.proofs.Joined.{PartsPut}
 use Rattle.assembly_writer.proofs.trailer.put_fields.Given as goal
 
 abbrev pub invariant-loop-field : goal.invariant-loop-field
-invariant-loop-field l = PartsPut (λ j. be 4 (get_or l.fields j 0)) l.initial.out field_count l.field-index l.at l.out
+invariant-loop-field l = PartsPut (λ j. be 4 (get_or l.field-items j 0)) l.initial.out field_count l.field-index l.at l.out
