@@ -1,5 +1,4 @@
 -- A certificate a turn, into the rest of the buffer.
-use Prim.Native.Nat.{◌-◌}
 use Rattle.assembly_writer.specs.Parts.{certificate_part}
 use Rattle.assembly_writer.proofs.Joined.{PartsPut}
 use Rattle.assembly_writer.proofs.put_leaders.Given as goal

@@ -1,5 +1,4 @@
 -- A signature a turn, into the rest of the buffer.
-use Prim.Native.Nat.{◌-◌}
 use lib.ListN.{get_or}
 use Rattle.assembly_writer.specs.Parts.{signature_at}
 use Rattle.assembly_writer.proofs.Joined.{PartsPut}

@@ -1,5 +1,5 @@
 -- A stamp a turn, into the rest of the buffer.
-use Prim.Native.Nat.{◌+◌, ◌-◌, ◌*◌}
+use Prim.Native.Nat.{◌+◌, ◌*◌}
 use lib.ListN.{get_or}
 use Rattle.assembly_copies.specs.Rows.{taken_size}
 use Rattle.assembly_writer.specs.Parts.{signature_at}

@@ -1,7 +1,7 @@
 -- A row a turn.
 use mathlib.Core.Path.{◌≡◌}
 use mathlib.Core.List.{List}
-use Prim.Native.Nat.{ℕ, ◌+◌, ◌-◌, ◌*◌, ◌≤◌}
+use Prim.Native.Nat.{ℕ, ◌+◌, ◌*◌, ◌≤◌}
 use lib.ListN.{length}
 use Rattle.assembly_terms.specs.Wanted.{vote_head, vote_tail}
 use Rattle.assembly_writer.specs.Parts.{lead_most, RowsInside}

@@ -1,5 +1,4 @@
 -- A number a turn, into the rest of the buffer.
-use Prim.Native.Nat.{◌-◌}
 use lib.ListN.{get_or}
 use Rattle.words.specs.BigEndian.{be}
 use Rattle.assembly_writer.specs.Parts.{field_count}
