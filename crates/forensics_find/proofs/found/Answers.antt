@@ -10,8 +10,8 @@ record_count-requires c = c.requires.0.long
 pub record_count-requires-2 : goal.record_count-requires-2
 record_count-requires-2 c = c.requires.3.long
 
-pub difference-difference-requires : goal.difference-difference-requires
-difference-difference-requires c =
+pub difference-index-requires : goal.difference-index-requires
+difference-index-requires c =
     let a = c.args in
     let p = c.requires in
     rw (c.record_count.ensures.0, c.record_count-2.ensures.0)
@@ -29,7 +29,8 @@ rows-requires c = let p = c.requires in (p.0, p.1, p.3, p.4)
 pub returns : goal.returns
 returns c =
     let a = c.args in
-    read-says a.width a.size a.a.now a.b.now _ _ c.difference-difference.ensures
+    read-says a.width a.size a.a.now a.b.now _ _ c.difference-index.ensures
     c.record_count.ensures.0
     c.record_count-2.ensures.0
-    c.receipts_of-first.ensures c.receipts_of-second.ensures c.fork.ensures c.rows.ensures
+    c.receipts_of-first.ensures c.receipts_of-second.ensures (rw c.differing-difference.ensures at c.fork.ensures)
+    (rw c.differing-difference.ensures at c.rows.ensures)
