@@ -16,6 +16,15 @@ use Rattle.forensics_charges.specs.declared.Rule.TheVariants.{TwoVotes, TwoStamp
 use Rattle.forensics_charges.specs.declared.Charge as declared
 use Rattle.forensics_charges.specs.declared.Findings.{Findings}
 
+-- a replica's row: what it is charged with, if it is named
+abbrev pub Row : Type 0
+Row = code.Option declared.Charge
+
+-- where two logs differ first: at no index, or at one from 1
+unfoldable pub difference_of : ℕ → code.Option ℕ
+difference_of zero = None
+difference_of (suc i) = Some (suc i)
+
 -- ---- the receipts of a submission
 
 -- without a commit certificate nobody has given one
@@ -86,12 +95,12 @@ number OneLeaf = 5
 unfoldable pub meaning : declared.Charge → Charge
 meaning c = record { rule = c.rule; term = c.term }
 
-unfoldable pub charge_of : code.Option declared.Charge → Option Charge
+unfoldable pub charge_of : Row → Option Charge
 charge_of None = none
 charge_of (Some c) = some (meaning c)
 
 -- that of replica k, in the rows of replicas 1 to 9
-unfoldable pub row_at : List (code.Option declared.Charge) → ℕ → Option Charge
+unfoldable pub row_at : List Row → ℕ → Option Charge
 row_at rows k = charge_of (get_or rows (k - 1) None)
 
 -- fork index 0 for none
