@@ -7,7 +7,7 @@ use Prim.Native.Nat.{ℕ, zero, suc, ◌≤◌, ◌<◌}
 use native.Mathlib.Omega.{arith}
 use borrow.Author.Tests.{lt-ltb, le-leb, lt-leb}
 use lib.Dec.{leb, ltb}
-use Rattle.std.specs.Prelude.{Option, unwrap_or}
+use Rattle.std.specs.Prelude.{Option, unwrap_or, IfSome}
 use Rattle.refusal.specs.Checks.{all}
 use Rattle.forensics_charges.specs.declared.Receipt.{Receipt}
 use Rattle.forensics_charges.specs.Rules.{reached}
@@ -22,6 +22,11 @@ index_again : (d : ℕ) → unwrap_or (difference_of d) 0 ≡ d
 unfolding difference_of
 index_again zero = refl
 index_again (suc d) = refl
+
+pub index_above : (d : ℕ) → IfSome (difference_of d) (λ index. 0 < index)
+unfolding difference_of
+index_above zero = tt
+index_above (suc d) = omega arith
 
 -- ---- an index against two others
 

@@ -1,15 +1,11 @@
--- Too few, or as many as the second test says.
-use borrow.Author.Tests.{le-leb, lt-leb}
-use borrow.Author.Rules.{rules}
-use lib.ListN.{length}
-use Rattle.refusal.proofs.Laws.{first_fails, first_holds, all_one}
-use Rattle.district_parts.specs.Parts.{count_least, counted}
+use Rattle.std.proofs.Common.{rules, ◌≡◌, ℕ, ◌+◌, ◌-◌, ◌*◌, ◌<◌, ◌≤◌, length, ◌/◌, ◌%◌, Bool, true, false, nat_eq, nat_lt, List, [], ◌∷◌, ◌++◌, slice_index_or, slice_set, bit_and, bit_or, Fits, w8, w32, w64, Bor, MutBor}
+use Rattle.district_parts.specs.Parts as paper
 use Rattle.district_parts.proofs.count_in_range.Goals as goal
 
-pub returns-then-lengths-lt-COUNT_LEAST : goal.returns-then-lengths-lt-COUNT_LEAST
-unfolding counted
-returns-then-lengths-lt-COUNT_LEAST c = first_fails _ _ (lt-leb count_least (length c.args.lengths.now) (search rules))
+-- src/lib.rt:13:1
+pub returns-then-lengths-ge-COUNT_LEAST : goal.returns-then-lengths-ge-COUNT_LEAST
+returns-then-lengths-ge-COUNT_LEAST c = ?
 
-pub returns : goal.returns
-unfolding counted
-returns c = first_holds _ _ (le-leb count_least (length c.args.lengths.now) (search rules)) (all_one _)
+-- src/lib.rt:13:1
+pub returns-else-lengths-ge-COUNT_LEAST : goal.returns-else-lengths-ge-COUNT_LEAST
+returns-else-lengths-ge-COUNT_LEAST c = ?

@@ -1,32 +1,19 @@
--- What is left after the first lengths is the sum of the others just where the whole is the sum of all.
-use mathlib.Core.Path.{◌≡◌, refl, sym, ◌∙◌}
-use Prim.Native.Nat.{suc, ◌+◌}
-use native.Mathlib.Omega.{arith}
-use borrow.Author.Rules.{rules}
-use Rattle.district_parts.specs.Parts.{adds_up}
-use Rattle.district_parts.proofs.Sums.{too_long_lem, taken, all-taken}
+use Rattle.std.proofs.Common.{rules, ◌≡◌, ℕ, ◌+◌, ◌-◌, ◌*◌, ◌<◌, ◌≤◌, length, ◌/◌, ◌%◌, Bool, true, false, nat_eq, nat_lt, List, [], ◌∷◌, ◌++◌, slice_index_or, slice_set, bit_and, bit_or, Fits, w8, w32, w64, Bor, MutBor}
+use Rattle.district_parts.specs.Parts as paper
 use Rattle.district_parts.proofs.lengths_add_up.Goals as goal
 
-pub loop-i-init : goal.loop-i-init
-unfolding adds_up
-loop-i-init c = (omega arith, refl)
+-- src/lib.rt:24:5
+pub loop-size-init : goal.loop-size-init
+loop-size-init c = ?
 
-pub overflow_cast-size : goal.overflow_cast-size
-overflow_cast-size c = let f = c.type_inv.lengths c.loop-i.i in search (rules, f)
+-- src/lib.rt:26:13
+pub returns-in_default : goal.returns-in_default
+returns-in_default c = ?
 
-pub returns-then-left-size : goal.returns-then-left-size
-returns-then-left-size c =
-    let l = c.loop-i in
-    sym (too_long_lem c.args.lengths.now l.i l.left (search rules) (search rules)) ∙ l.invariant.1
+-- src/lib.rt:24:5
+pub loop-size-preserved : goal.loop-size-preserved
+loop-size-preserved c = ?
 
-pub loop-i-preserved : goal.loop-i-preserved
-loop-i-preserved c =
-    let l = c.loop-i in
-    let lengths = c.args.lengths.now in
-    let next : suc l.i ≡ l.i + 1 = omega arith in
-    (omega arith, rw (← next) (taken lengths l.i l.left (search rules) (search rules)) ∙ l.invariant.1)
-
+-- src/lib.rt:20:1
 pub returns : goal.returns
-returns c =
-    let l = c.loop-i in
-    all-taken c.args.lengths.now l.i l.left (omega arith) ∙ l.invariant.1
+returns c = ?
