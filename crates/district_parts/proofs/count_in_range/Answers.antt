@@ -1,11 +1,16 @@
-use Rattle.std.proofs.Common.{rules, ◌≡◌, ℕ, ◌+◌, ◌-◌, ◌*◌, ◌<◌, ◌≤◌, length, ◌/◌, ◌%◌, Bool, true, false, nat_eq, nat_lt, List, [], ◌∷◌, ◌++◌, slice_index_or, slice_set, bit_and, bit_or, Fits, w8, w32, w64, Bor, MutBor}
-use Rattle.district_parts.specs.Parts as paper
+-- Too few, or as many as the second test says.
+use mathlib.Core.Path.{◌∙◌}
+use borrow.Author.Tests.{le-leb, lt-leb}
+use Rattle.refusal.proofs.Laws.{first_fails, first_holds, all_one}
+use Rattle.district_parts.specs.Parts.{counted}
 use Rattle.district_parts.proofs.count_in_range.Goals as goal
 
--- src/lib.rt:13:1
 pub returns-then-lengths-ge-COUNT_LEAST : goal.returns-then-lengths-ge-COUNT_LEAST
-returns-then-lengths-ge-COUNT_LEAST c = ?
+unfolding counted
+returns-then-lengths-ge-COUNT_LEAST c = first_holds _ _ (le-leb _ _ c.if-lengths-ge-COUNT_LEAST.true) (all_one _)
 
--- src/lib.rt:13:1
 pub returns-else-lengths-ge-COUNT_LEAST : goal.returns-else-lengths-ge-COUNT_LEAST
-returns-else-lengths-ge-COUNT_LEAST c = ?
+unfolding counted
+returns-else-lengths-ge-COUNT_LEAST c =
+    let few = lt-leb _ _ c.if-lengths-ge-COUNT_LEAST.false in
+    few ∙ first_fails _ _ few

@@ -1,19 +1,28 @@
-use Rattle.std.proofs.Common.{rules, ◌≡◌, ℕ, ◌+◌, ◌-◌, ◌*◌, ◌<◌, ◌≤◌, length, ◌/◌, ◌%◌, Bool, true, false, nat_eq, nat_lt, List, [], ◌∷◌, ◌++◌, slice_index_or, slice_set, bit_and, bit_or, Fits, w8, w32, w64, Bor, MutBor}
-use Rattle.district_parts.specs.Parts as paper
+-- What is left after the first lengths is the sum of the others just where the whole is the sum of all.
+use mathlib.Core.Path.{◌≡◌, refl, sym, ◌∙◌}
+use Prim.Native.Nat.{suc, ◌+◌}
+use native.Mathlib.Omega.{arith}
+use Rattle.district_parts.specs.Parts.{adds_up}
+use Rattle.district_parts.proofs.Sums.{too_long_lem, taken, all-taken}
 use Rattle.district_parts.proofs.lengths_add_up.Goals as goal
 
--- src/lib.rt:24:5
 pub loop-size-init : goal.loop-size-init
-loop-size-init c = ?
+unfolding adds_up
+loop-size-init c = refl
 
--- src/lib.rt:26:13
 pub returns-in_default : goal.returns-in_default
-returns-in_default c = ?
+returns-in_default c =
+    let l = c.loop-size in
+    sym (too_long_lem c.args.lengths.now l.size-index l.left c.loop-size-test.true (omega (arith, c.in_default.ensures))) ∙ l.invariant
 
--- src/lib.rt:24:5
 pub loop-size-preserved : goal.loop-size-preserved
-loop-size-preserved c = ?
+loop-size-preserved c =
+    let l = c.loop-size in
+    let rest = c.in-Some.ensures in
+    let next : suc l.size-index ≡ l.size-index + 1 = omega arith in
+    rw (rest.1, ← next) (taken c.args.lengths.now l.size-index l.left c.loop-size-test.true rest.0 ∙ l.invariant)
 
--- src/lib.rt:20:1
 pub returns : goal.returns
-returns c = ?
+returns c =
+    let l = c.loop-size in
+    all-taken c.args.lengths.now l.size-index l.left c.loop-size-test.false ∙ l.invariant
