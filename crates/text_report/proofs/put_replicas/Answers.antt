@@ -10,7 +10,7 @@ loop-k-init c = no-replicas _
 pub put_named-next-requires : goal.put_named-next-requires
 put_named-next-requires c =
     let done = c.loop-k.invariant in
-    (c.requires.0, c.loop-k.auto.k, c.loop-k-test.true, omega (arith, done.after, done.few))
+    (c.requires.0, c.loop-k.auto.k, omega arith, omega (arith, done.after, done.few))
 
 pub loop-k-preserved : goal.loop-k-preserved
 loop-k-preserved c =
