@@ -14,19 +14,8 @@ use Rattle.std.specs.Prelude.{Option, Some}
 use Rattle.refusal.proofs.Laws.{look, cond-true, all_cons, accepted}
 use Rattle.lm_digits.specs.Parameters.{row}
 use Rattle.lm_format.specs.Format.{height, key_size, one_time_bytes, path_at, signature_length}
+use Rattle.roster.proofs.EveryReplica.{every_each}
 use Rattle.roster.specs.Roster.{name_size, head_size, cluster, replicas, key_of, tree_type, one_time_type, levels, signature_size, every_replica, sized, typed, roster_number}
-
--- ---- every replica
-
-every_each : (n : ℕ) (test : ℕ → Bool) → every_replica n test ≡ true → (k : ℕ) → 0 < k → k ≤ n → test k ≡ true
-unfolding every_replica
-every_each zero test e k low high = absurd (omega arith)
-every_each (suc n) test e k low high =
-    let p = cond-true (test (suc n)) (every_replica n test) e in
-    ⊎_elim
-    (λ h. every_each n test p.1 k low (leb-true k n h))
-    (λ h. let last : k ≡ suc n = omega (arith, leb-false k n h) in rw last p.0)
-    (look (leb k n))
 
 -- ---- what each check says
 
