@@ -2,10 +2,13 @@
 #![tactic(auto)]
 
 ghost use Rattle.std.specs.Prelude.{◌≡◌, MatchOption, Bool, true, false, ℕ, ◌+◌, ◌*◌, ◌≤◌, ◌<◌, length};
+ghost use Rattle.refusal.specs.Refusals.{number_of};
 ghost use Rattle.lm_format.specs.Format.{key_size};
 ghost use Rattle.roster.specs.Roster as paper;
 
 mod keys;
+
+use refusal::Refusal;
 
 // The fewest replicas that a roster may have (document 01, "What stops an audit", number 2).
 const REPLICAS_MIN: usize = 3;
@@ -69,18 +72,18 @@ fn every_replica<F: Fn(usize) -> bool>(n: usize, test: F) -> bool
     true
 }
 
-// The roster's refusal, or 0.
-pub fn validate(roster: &[u8]) -> u32
-    ensures { result ≡ paper.roster_number roster.now }
+// The roster's refusal, if there is one.
+pub fn validate(roster: &[u8]) -> Result<(), Refusal>
+    ensures { number_of result ≡ paper.roster_number roster.now }
 {
     let Some(n) = sized(roster) else {
-        return 2;
+        return Err(Refusal::RosterSize);
     };
     if !every_replica(n, |k| typed(roster, k)) {
-        return 3;
+        return Err(Refusal::KeyType);
     }
     if !every_replica(n, |k| keys::single(roster, k)) {
-        return 4;
+        return Err(Refusal::DuplicateKey);
     }
-    0
+    Ok(())
 }
