@@ -14,6 +14,28 @@ use functions::word;
 #[derive(Clone, Copy)]
 pub struct Lanes<T>(pub T, pub T, pub T, pub T);
 
+impl<T: Copy> Lanes<T> {
+    // What a function makes of what stands in each lane.
+    pub fn map<U, F: Fn(T) -> U>(self, f: F) -> Lanes<U>
+        requires { (l : Lane) → F.pre f (lane l self) }
+        ensures { (l : Lane) → F.post f (lane l self) (lane l result) }
+    {
+        Lanes(f(self.0), f(self.1), f(self.2), f(self.3))
+    }
+
+    // What stands in each lane of two, side by side.
+    pub fn zip<U: Copy>(self, other: Lanes<U>) -> Lanes<(T, U)>
+        ensures { (l : Lane) → lane l result ≡ (lane l self, lane l other) }
+    {
+        Lanes(
+            (self.0, other.0),
+            (self.1, other.1),
+            (self.2, other.2),
+            (self.3, other.3),
+        )
+    }
+}
+
 // The same in each lane.
 pub fn same<T: Copy>(x: T) -> Lanes<T>
     ensures { (l : Lane) → lane l result ≡ x }
