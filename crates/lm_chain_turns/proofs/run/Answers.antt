@@ -2,7 +2,7 @@
 use mathlib.Core.Path.{◌≡◌}
 use native.Mathlib.Omega.{arith}
 use borrow.Author.Rules.{rules}
-use Rattle.sha256_lanes.specs.Lane.{Lane, lane}
+use Rattle.sha256_lanes.specs.Lane.{lane}
 use Rattle.lm_chain_turns.proofs.run.Goals as goal
 
 pub run-requires : goal.run-requires
