@@ -52,7 +52,7 @@ fn find_receipts(
     let mut statement = [0u8; STATEMENT_MOST];
     let head = log_chain::put_place_statement(
         &mut statement,
-        log_chain::RECEIPT,
+        log_chain::Kind::Receipt as u8,
         &roster[..roster::NAME_SIZE],
         width,
         term,

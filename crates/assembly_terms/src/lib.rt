@@ -18,6 +18,7 @@ ghost use Rattle.assembly_terms.specs.Wanted.{vote_head, vote_tail, vote_end, vo
 ghost use Rattle.assembly_terms.specs.Wanted.{stamp_head, stamp_tail, stamp_end, stamps_room, StampsIn};
 ghost use Rattle.assembly_terms.specs.Added.{EndsAdded};
 
+use log_chain::Kind;
 use log_terms::Walked;
 use sha256::State;
 
@@ -146,7 +147,7 @@ pub fn put_wanted(
 {
     let name = &roster[..roster::NAME_SIZE];
     let candidate = [0u8; 2];
-    log_chain::put_vote_statement(votes, log_chain::VOTE, name, &candidate);
-    log_chain::put_vote_statement(stamps, log_chain::STAMP, name, &candidate[..0]);
+    log_chain::put_vote_statement(votes, Kind::Vote as u8, name, &candidate);
+    log_chain::put_vote_statement(stamps, Kind::Stamp as u8, name, &candidate[..0]);
     put_ends(log, width, records, votes, stamps)
 }

@@ -7,6 +7,7 @@ use Prim.Native.Nat.{ℕ, ◌*◌, ◌≤◌}
 use native.Mathlib.Omega.{arith}
 use borrow.Author.Tests.{leb-true}
 use lib.ListN.{length}
+use Rattle.std.specs.Prelude.{Some, None}
 use Rattle.refusal.proofs.Laws.{all_cons}
 use Rattle.log_chain.specs.Log.{last_term}
 use Rattle.submission.specs.Trailer.{record_count}
@@ -15,7 +16,6 @@ use Rattle.submission.specs.Reading.{commit_at, view, laid_out}
 use Rattle.submission.specs.Validate.{within}
 use Rattle.log_chain.proofs.Records.{length-records, fewer_inside}
 use Rattle.submission_parts.specs.declared.Commit.{Commit}
-use Rattle.submission_parts.specs.declared.CommitPart.TheVariants.{Found, Absent}
 use Rattle.submission_parts.specs.Reader.{commit_numbers_at}
 use Rattle.submission_parts.specs.Commits.{commit_part}
 use Rattle.submission_parts.proofs.Commits.{absent-says, found-says}
@@ -25,11 +25,11 @@ use Rattle.forensics_charges.specs.declared.Receipt.{Receipt}
 use Rattle.forensics_charges.specs.Charges.{receipts_by, receipts}
 
 module _ (w S : ℕ) (s : List ℕ) where
-  pub no-receipts : commit_part w S s ≡ Absent → ◌≡◌ {A = Receipt} (record { term = 0; index = 0; signers = 0 }) (receipts (view w S s))
+  pub no-receipts : commit_part w S s ≡ None → ◌≡◌ {A = Receipt} (record { term = 0; index = 0; signers = 0 }) (receipts (view w S s))
   unfolding receipts receipts_by view
   no-receipts e = rw (absent-says w S s e)
 
-  module _ {c : Commit} {at : ℕ} (e : commit_part w S s ≡ Found c at) (inside : within (view w S s).commit (length (view w S s).log) ≡ true) where
+  module _ {c : Commit} {at : ℕ} (e : commit_part w S s ≡ Some (c, at)) (inside : within (view w S s).commit (length (view w S s).log) ≡ true) where
     index-inside : (commit_at s at).index ≤ record_count s
     unfolding view within
     index-inside =

@@ -12,7 +12,6 @@ ghost use Rattle.forensics_find.specs.Tenures as inner;
 
 use forensics_charges::{Receipt, Tenure};
 use submission::TERM_AT;
-use submission_parts::CommitPart;
 
 // The last record of the term before a place, with so many leader certificates from there on.
 fn end_at(s: &[u8], width: usize, later: usize, next: usize) -> u32
@@ -57,7 +56,7 @@ pub fn receipts_of(s: &[u8], width: usize, size: usize) -> Receipt
         × (within (view width size s.now).commit (length (view width size s.now).log) ≡ true) }
     ensures { result ≡ receipts (view width size s.now) }
 {
-    let CommitPart::Found(c, _) = submission_parts::commit_part(s, width, size) else {
+    let Some((c, _)) = submission_parts::commit_part(s, width, size) else {
         return Receipt {
             term: 0,
             index: 0,

@@ -24,10 +24,8 @@ pub fn first_block(head: &[u8], message: &[u8]) -> [u8; 64]
     ensures { result ≡ take 64 ((head.now ++ message.now) ++ replicate 64 0) }
 {
     let mut block = [0u8; 64];
-    let mut i = 0;
-    while i < 64 {
+    for i in 0..64 {
         block[i] = byte_at(head, message, i);
-        i += 1;
     }
     block
 }

@@ -2,12 +2,13 @@
 -- loop's test in RFC 8554, 5.4.2, algorithm 6a, step 4.
 -- Assumes nothing.
 use mathlib.Core.Path.{◌≡◌, sym, ap, ◌∙◌}
-use mathlib.Core.List.{List}
-use Prim.Native.Nat.{ℕ, zero, suc, ◌+◌, ◌-◌, ◌/◌, ◌^◌, ◌≤◌, ◌<◌}
+use Rattle.std.proofs.Common.{ap₂}
+use mathlib.Core.List.{List, ◌++◌, append-nil}
+use Prim.Native.Nat.{ℕ, zero, suc, ◌+◌, ◌/◌, ◌^◌, ◌≤◌, ◌<◌}
 use native.Mathlib.Nat.{one-mul, div-one, div-le_self}
 use native.Mathlib.Omega.{arith}
-use lib.ListN.{take, drop}
-use lib.Seq.{drop-drop}
+use lib.ListN.{length, take, drop, length-append, drop_of_length-le}
+use lib.Seq.{take_at, drop_at}
 use lib.Pow.{high, shr-shr}
 use Rattle.lm_hash.specs.Tagged.{tagged}
 use Rattle.lm_tree.specs.Tree.{D-LEAF, parent, climb, root}
@@ -20,13 +21,27 @@ last_node h q inside = ap (λ (n : ℕ). (n + q) / 2 ^ h) (sym (one-mul (2 ^ h))
 
 -- ---- one level
 
-pub climb-first : (I : List ℕ) (left node : ℕ) (tmp path : List ℕ) (at : ℕ) → 0 < left
-    → climb I left node tmp (drop at path)
-    ≡ climb I (left - 1) (node / 2) (parent I node tmp (take 32 (drop at path))) (drop (at + 32) path)
+-- the first of the siblings, then those after it
+pub climb-first : (I : List ℕ) (node : ℕ) (tmp sibling path : List ℕ) → length sibling ≡ 32
+    → climb I (length (sibling ++ path) / 32) node tmp (sibling ++ path) ≡ climb I (length path / 32) (node / 2) (parent I node tmp sibling) path
 unfolding climb
-climb-first I left node tmp path at h =
-    let count : left ≡ suc (left - 1) = omega arith in
-    ap (λ (n : ℕ). climb I n node tmp (drop at path)) count ∙ rw (← drop-drop 32 at path)
+climb-first I node tmp sibling path h =
+    let count : length (sibling ++ path) / 32 ≡ suc (length path / 32) = rw length-append (omega (arith, h)) in
+    ap (λ (n : ℕ). climb I n node tmp (sibling ++ path)) count
+    ∙ ap₂ (λ (s p : List ℕ). climb I (length path / 32) (node / 2) (parent I node tmp s) p) (take_at sibling path 32 h)
+    (drop_at sibling path 32 h)
+
+-- less than a sibling changes nothing
+pub climb-end : (I : List ℕ) (node : ℕ) (tmp path : List ℕ) → length path < 32 → climb I (length path / 32) node tmp path ≡ tmp
+unfolding climb
+climb-end I node tmp path h = let none : length path / 32 ≡ 0 = omega arith in rw none
+
+-- ---- two values in one block
+
+pub two_halves : (a b zeros : List ℕ) → length a ≡ 32 → length zeros ≡ 32
+    → take 32 (a ++ zeros) ++ (b ++ drop 32 (drop 32 (a ++ zeros))) ≡ a ++ b
+two_halves a b zeros h k =
+    rw (take_at a zeros 32 h, drop_at a zeros 32 h, drop_of_length-le zeros {i = 32} (omega arith), append-nil)
 
 -- ---- the loop as it is written
 

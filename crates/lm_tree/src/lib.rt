@@ -1,7 +1,7 @@
 // The tree of a key: from a leaf and its path to the root (RFC 8554, 5.4.2, algorithm 6a, step 4).
 #![tactic(auto)]
 
-ghost use Rattle.std.specs.Prelude.{◌≡◌, cond, ◌++◌, ◌*◌, ◌%◌, ◌^◌, ◌≤◌, ◌<◌, eqb, length};
+ghost use Rattle.std.specs.Prelude.{◌≡◌, cond, ◌++◌, ◌*◌, ◌/◌, ◌%◌, ◌^◌, ◌≤◌, ◌<◌, eqb, length};
 ghost use Rattle.sha256.specs.Sha256.{bytes_of};
 ghost use Rattle.lm_hash.specs.Identifier.{identifier};
 ghost use Rattle.lm_format.specs.Bounds.{height_most};
@@ -20,9 +20,10 @@ const D_INTR: u32 = 0x8383;
 fn pair(left: State, right: State) -> [u8; 64]
     ensures { result ≡ bytes_of left ++ bytes_of right }
 {
-    let first = left.bytes();
-    let second = right.bytes();
-    lm_hash::message::first_block(&first, &second)
+    let mut both = [0u8; 64];
+    both[..32].copy_from_slice(&left.bytes());
+    both[32..].copy_from_slice(&right.bytes());
+    both
 }
 
 // The values of a node and its sibling, the left child first: an odd node is the right one.
@@ -45,20 +46,15 @@ fn parent(leaf: Leaf, node: u32, t: State, sibling: State) -> State
 }
 
 // The root's value from that of a node some levels below it.
-fn climb(leaf: Leaf, levels: u32, start: u32, value: State, path: &[u8]) -> State
-    requires { length path.now ≡ 32 * levels }
+fn climb(leaf: Leaf, start: u32, value: State, path: &[u8]) -> State
     ensures { bytes_of result
-        ≡ rfc.climb (identifier leaf) levels start (bytes_of value) path.now }
+        ≡ rfc.climb (identifier leaf) (length path.now / 32) start (bytes_of value) path.now }
 {
     let mut t = value;
     let mut node = start;
-    let mut at = 0;
-    let mut left = levels;
-    while 0 < left {
-        t = parent(leaf, node, t, lm_hash::value_at(path, at));
+    for sibling in path.chunks_exact(32) {
+        t = parent(leaf, node, t, lm_hash::value_at(sibling, 0));
         node /= 2;
-        at += 32;
-        left -= 1;
     }
     t
 }
@@ -71,5 +67,5 @@ pub fn root(leaf: Leaf, h: u32, kc: State, path: &[u8]) -> State
     let node = (1 << h) + leaf.q;
     let key = kc.bytes();
     let value = lm_hash::tagged(leaf, node, D_LEAF, &key);
-    climb(leaf, h, node, value, path)
+    climb(leaf, node, value, path)
 }

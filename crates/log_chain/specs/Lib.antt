@@ -1,6 +1,7 @@
 pub mod Log
 pub mod Claim
 pub mod Apart
+pub mod Kinds
 pub mod Sizes
 pub mod Records
 pub mod Runs

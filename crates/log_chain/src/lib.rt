@@ -7,6 +7,7 @@ ghost use Rattle.words.specs.BigEndian.{be};
 ghost use Rattle.words.specs.Over.{over};
 ghost use Rattle.words.specs.Widths.{width_most};
 ghost use Rattle.sha256.specs.Sha256.{bytes_of, sha256};
+ghost use Rattle.log_chain.specs.Kinds.{KindOf};
 ghost use Rattle.log_chain.specs.Records.{record_size};
 ghost use Rattle.log_chain.specs.Sizes.{record_size_most, place_statement, place_size};
 
@@ -22,12 +23,34 @@ pub const POINTER_SIZE: usize = 32;
 // The most bytes of a chain string before the pointer: index and record.
 const CHAIN_HEAD_MOST: usize = INDEX_SIZE + words::WIDTH_MOST + DIGEST_SIZE;
 
-// The kind bytes of a stamp, a receipt and a vote.
-pub const STAMP: u8 = 1;
+// What a statement is; as a number, its kind byte.
+#[derive(Clone, Copy, PartialEq, Eq)]
+pub enum Kind {
+    Stamp = 1,
+    Receipt = 2,
+    Vote = 3,
+}
 
-pub const RECEIPT: u8 = 2;
+// A byte that is no kind's.
+#[derive(Clone, Copy, PartialEq, Eq)]
+pub struct UnknownKind {
+    pub byte: u8,
+}
 
-pub const VOTE: u8 = 3;
+impl TryFrom<u8> for Kind {
+    type Error = UnknownKind;
+
+    ghost try_from_gives = { KindOf };
+
+    fn try_from(byte: u8) -> Result<Kind, UnknownKind> {
+        match byte {
+            1 => Ok(Kind::Stamp),
+            2 => Ok(Kind::Receipt),
+            3 => Ok(Kind::Vote),
+            _ => Err(UnknownKind { byte }),
+        }
+    }
+}
 
 // Where the cluster's name stands in a statement, after the kind.
 pub const NAME_AT: usize = 1;

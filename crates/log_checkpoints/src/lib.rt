@@ -24,12 +24,10 @@ pub fn put_checkpoints(s: &[u8], width: usize, records: usize, table: &mut [u8])
     let zero = log_terms::pointers::pointers_zero();
     let mut p = zero.last;
     lm_hash::put_value(table, 0, p);
-    let mut k = 0;
-    while k < records {
+    for k in 0..records {
         p = log_terms::pointers::step(s, width, k, p);
-        k += 1;
-        if k % SPACING == 0 {
-            lm_hash::put_value(table, POINTER_SIZE * (k / SPACING), p);
+        if (k + 1) % SPACING == 0 {
+            lm_hash::put_value(table, POINTER_SIZE * ((k + 1) / SPACING), p);
         }
     }
 }
@@ -43,10 +41,8 @@ pub fn pointer_at(s: &[u8], width: usize, records: usize, i: usize, table: &[u8]
 {
     let m = i / SPACING;
     let mut p = lm_hash::value_at(table, POINTER_SIZE * m);
-    let mut k = SPACING * m;
-    while k < i {
+    for k in SPACING * m..i {
         p = log_terms::pointers::step(s, width, k, p);
-        k += 1;
     }
     p
 }

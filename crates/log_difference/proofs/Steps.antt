@@ -4,17 +4,18 @@
 use mathlib.Core.Path.{◌≡◌, refl, sym, ap, ◌∙◌}
 use mathlib.Core.Bool.{true, false}
 use mathlib.Core.List.{List, ◌++◌}
-use Prim.Native.Nat.{ℕ, suc, ◌+◌, ◌*◌, ◌≤◌, ◌<◌}
+use mathlib.Core.Logic.{⊎_elim}
+use Prim.Native.Nat.{ℕ, suc, ◌+◌, ◌*◌, ◌≤◌, ◌<◌, min}
 use native.Mathlib.Nat.{mul-suc}
 use native.Mathlib.Omega.{arith}
-use borrow.Author.Tests.{eq-eqb, eqb-true}
-use lib.Dec.{eqb}
+use borrow.Author.Tests.{eq-eqb, eqb-true, leb-true, leb-false}
+use lib.Dec.{eqb, leb}
 use lib.ListN.{length, take, drop, length-drop}
 use lib.Seq.{take-take, take-add, drop_at, length-take-le}
 use Rattle.words.specs.BigEndian.{same, be, number}
 use Rattle.words.proofs.Bytes.{Bytes}
 use Rattle.words.proofs.Same.{same_true, true_same, same_test}
-use Rattle.refusal.proofs.Laws.{cond-true}
+use Rattle.refusal.proofs.Laws.{cond-true, look}
 use Rattle.log_chain.specs.Log.{Record}
 use Rattle.log_chain.specs.Difference.{same_record}
 use Rattle.log_chain.specs.Records.{record_size, records_of}
@@ -75,12 +76,14 @@ module _ (w m n : ℕ) (s t : List ℕ) where
   from_first = rw (after-all w m s, after-all w n t)
 
   -- no more of the first, or of the second
-  pub from-end-first : (i : ℕ) → m ≤ i → differ_from i ≡ 0
+  pub from-end : (i : ℕ) → min m n ≤ i → differ_from i ≡ 0
   unfolding differ_at
-  from-end-first i h = rw (after_last w m i s h)
-
-  pub from-end-second : (i : ℕ) → n ≤ i → differ_from i ≡ 0
-  from-end-second i h = rw (after_last w n i t h) (differ-nil (suc i) (records_after w m i s))
+  from-end i h =
+      ⊎_elim
+      (λ (e : leb m i ≡ true). rw (after_last w m i s (leb-true m i e)))
+      (λ (e : leb m i ≡ false).
+      rw (after_last w n i t (omega (arith, leb-false m i e))) (differ-nil (suc i) (records_after w m i s)))
+      (look (leb m i))
 
   module _ (i : ℕ) (p : i < m) (q : i < n) where
     pub from_next : same_record (record_at w s i) (record_at w t i) ≡ true → differ_from i ≡ differ_from (suc i)

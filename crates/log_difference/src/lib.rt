@@ -13,8 +13,7 @@ fn same_part(a: &[u8], b: &[u8], at: usize, size: usize) -> bool
     ensures { result
         ≡ same (take size (drop at a.now)) (take size (drop at b.now)) }
 {
-    let end = at + size;
-    check::same(&a[at..end], &b[at..end])
+    a[at..at + size] == b[at..at + size]
 }
 
 // The lowest index whose records differ in two logs of so many records; 0 if none does.
@@ -25,15 +24,10 @@ pub fn difference(a: &[u8], b: &[u8], width: usize, first: usize, second: usize)
         b.now) }
 {
     let size = log_chain::record_size(width);
-    let mut i = 0;
-    while i < first {
-        if second <= i {
-            return 0;
-        }
+    for i in 0..first.min(second) {
         if !same_part(a, b, size * i, size) {
             return i + 1;
         }
-        i += 1;
     }
     0
 }

@@ -12,10 +12,8 @@ fn occurs_after(s: &[u8], width: usize, records: usize, i: usize, term: u64) -> 
     requires { (width ≤ width_most) × (i ≤ records) × (record_size width * records ≤ length s.now) }
     ensures { result ≡ occurs term (records_after width records i s.now) }
 {
-    let mut k = i;
-    while k < records {
-        k += 1;
-        if log_terms::last_term(s, width, k) == term {
+    for k in i..records {
+        if log_terms::last_term(s, width, k + 1) == term {
             return true;
         }
     }
@@ -28,11 +26,9 @@ pub fn terms_at_most(s: &[u8], width: usize, records: usize, most: usize) -> boo
     ensures { result ≡ leb (distinct (records_of width records s.now)) most }
 {
     let mut count = 0;
-    let mut i = 0;
-    while i < records {
-        i += 1;
-        let term = log_terms::last_term(s, width, i);
-        if !occurs_after(s, width, records, i, term) {
+    for i in 0..records {
+        let term = log_terms::last_term(s, width, i + 1);
+        if !occurs_after(s, width, records, i + 1, term) {
             count += 1;
             if most < count {
                 return false;

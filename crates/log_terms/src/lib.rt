@@ -55,14 +55,12 @@ pub fn terms_in_order(s: &[u8], width: usize, records: usize) -> bool
     ensures { result ≡ rising 1 (records_of width records s.now) }
 {
     let mut low = 1;
-    let mut i = 0;
-    while i < records {
+    for i in 0..records {
         let term = term_after(s, width, i);
         if term < low {
             return false;
         }
         low = term;
-        i += 1;
     }
     true
 }
@@ -76,14 +74,12 @@ pub fn run_end(s: &[u8], width: usize, records: usize, i: usize) -> usize
         ∷ runs_left width records result s.now) }
 {
     let term = term_after(s, width, i);
-    let mut end = i + 1;
-    while end < records {
+    for end in i + 1..records {
         if term_after(s, width, end) != term {
             return end;
         }
-        end += 1;
     }
-    end
+    records
 }
 
 // 12: the number of distinct terms.

@@ -81,10 +81,8 @@ fn pointers_after(s: &[u8], width: usize, commit: usize, from: Walked, end: usiz
     ensures { PointersCarried width commit end s.now result }
 {
     let mut p = from.pointers;
-    let mut k = from.end;
-    while k < end {
+    for k in from.end..end {
         p = next(s, width, commit, k, p);
-        k += 1;
     }
     p
 }

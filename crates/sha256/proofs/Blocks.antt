@@ -2,8 +2,8 @@
 -- Assumes nothing.
 use mathlib.Core.Path.{◌≡◌, refl, sym, ap, ◌∙◌}
 use mathlib.Core.List.{List, [], ◌∷◌, ◌++◌, append_assoc, flat_map}
-use Prim.Native.Nat.{ℕ, zero, suc, ◌+◌, ◌-◌, ◌*◌, ◌/◌, ◌≤◌, ◌<◌}
-use native.Mathlib.Nat.{not-suc-le-zero, zero-add, suc-add, mul-suc, mul_comm, add_comm}
+use Prim.Native.Nat.{ℕ, zero, suc, ◌+◌, ◌*◌, ◌/◌, ◌≤◌, ◌<◌}
+use native.Mathlib.Nat.{zero-add, suc-add, mul-suc, mul_comm, add_comm}
 use native.Mathlib.Numerals.{add-one}
 use native.Mathlib.Omega.{arith}
 use lib.ListN.{length, take, drop, set, length-append, length-drop, length-replicate, drop_of_length-le}
@@ -53,13 +53,6 @@ blocks-add (suc m) n s bytes =
     rw (suc-add, mul-suc, add_comm (64 * m) 64, ← drop-drop (64 * m) 64 bytes)
     (blocks-add m n (compress s (parse 16 bytes)) (drop 64 bytes))
 
--- the first of the blocks that are left
-pub blocks-first : (left : ℕ) (s : State) (bytes : List ℕ) (at : ℕ) → 0 < left
-    → blocks left s (drop at bytes) ≡ blocks (left - 1) (compress s (parse 16 (drop at bytes))) (drop (at + 64) bytes)
-unfolding blocks
-blocks-first zero s bytes at h = absurd (not-suc-le-zero h)
-blocks-first (suc left) s bytes at h = let less : suc left - 1 ≡ left = omega arith in rw (less, drop-drop)
-
 -- ---- a list in front of another
 
 parse_front : (k : ℕ) (xs ys : List ℕ) → 4 * k ≤ length xs → parse k (xs ++ ys) ≡ parse k xs
@@ -99,11 +92,19 @@ pub hash-one : (s : State) (xs : List ℕ) → length xs ≡ 64 → hash s xs �
 unfolding hash blocks
 hash-one s xs h = rw h
 
+-- a block, then what follows it
+pub hash_block : (s : State) (xs ys : List ℕ) → length xs ≡ 64 → hash s (xs ++ ys) ≡ hash (compress s (parse 16 xs)) ys
+hash_block s xs ys h =
+    hash_rest 1 s xs ys (omega arith) (omega arith) ∙ rw (drop_of_length-le xs {i = 64} (omega arith), hash-one s xs h)
+
 pub hash_two : (s : State) (xs ys : List ℕ) → length xs ≡ 64 → length ys ≡ 64
     → hash s (xs ++ ys) ≡ compress (compress s (parse 16 xs)) (parse 16 ys)
-hash_two s xs ys h k =
-    hash_rest 1 s xs ys (omega arith) (omega arith)
-    ∙ rw (drop_of_length-le xs {i = 64} (omega arith), hash-one s xs h) (hash-one (compress s (parse 16 xs)) ys k)
+hash_two s xs ys h k = hash_block s xs ys h ∙ hash-one (compress s (parse 16 xs)) ys k
+
+-- less than a block changes nothing
+pub hash_end : (s : State) (xs : List ℕ) → length xs < 64 → hash s xs ≡ s
+unfolding hash blocks
+hash_end s xs h = let none : length xs / 64 ≡ 0 = omega arith in rw none
 
 -- the digest of a message: its whole blocks, then what is left of it with the padding
 pub sha256_split : (m : List ℕ)

@@ -1,14 +1,14 @@
 -- The padding of a message's last bytes: how a block is filled, and that one or two blocks hold what FIPS 180-4 appends.
 -- Assumes nothing.
-use mathlib.Core.Path.{◌≡◌, sym, ap, ◌∙◌}
+use mathlib.Core.Path.{◌≡◌, refl, sym, ap, ◌∙◌}
 use mathlib.Core.List.{List, ◌∷◌, ◌++◌, append_assoc, append-nil}
 use Prim.Native.Nat.{ℕ, suc, ◌+◌, ◌-◌, ◌*◌, ◌%◌, ◌^◌, ◌≤◌, ◌<◌}
 use native.Mathlib.Nat.{mod-lt}
-use native.Mathlib.Numerals.{add-one}
 use native.Mathlib.Omega.{arith}
-use lib.ListN.{length, get_or, take, set, replicate, drop_of_length-le, length-append, length-replicate, replicate-append-replicate}
-use lib.Seq.{length-take-le, set_at, take-suc, append_snoc, take_at, sets, sets-eq}
+use lib.ListN.{length, take, drop, set, replicate, drop_of_length-le, length-append, length-replicate, replicate-append-replicate}
+use lib.Seq.{set_at, take_at, sets, sets-eq}
 use lib.Dec.{lit<}
+use Rattle.std.proofs.lemmas.List.{drop-replicate}
 use Rattle.words.specs.BigEndian.{be}
 use Rattle.words.proofs.Laws.{be_pad, length-be}
 use Rattle.sha256.specs.declared.State.{State}
@@ -17,19 +17,12 @@ use Rattle.sha256.proofs.Blocks.{hash-one, hash_two}
 
 -- ---- a block that is filled from the front
 
--- the next byte goes where the zeros begin
-pub fill_next : (xs : List ℕ) (i x : ℕ) → i ≤ length xs → i < 64
-    → set (take i xs ++ replicate (64 - i) 0) i x ≡ take i xs ++ x ∷ replicate (63 - i) 0
-fill_next xs i x h room =
-    let count : 64 - i ≡ suc (63 - i) = omega arith in
-    rw (count, set_at (take i xs) 0 (replicate (63 - i) 0) x i (length-take-le i xs h))
-
--- and is the next of the list
-pub fill_more : (xs : List ℕ) (i : ℕ) → i < length xs → i < 64
-    → set (take i xs ++ replicate (64 - i) 0) i (get_or xs i 0) ≡ take (i + 1) xs ++ replicate (64 - (i + 1)) 0
-fill_more xs i h room =
-    let count : 64 - (i + 1) ≡ 63 - i = omega arith in
-    rw (fill_next xs i (get_or xs i 0) (omega arith) room, count, add-one, take-suc xs i 0 h, append_snoc)
+-- one byte more where the zeros begin
+pub fill_next : (xs : List ℕ) (x : ℕ) → length xs < 64
+    → set (xs ++ drop (length xs) (replicate 64 0)) (length xs) x ≡ xs ++ x ∷ replicate (63 - length xs) 0
+fill_next xs x room =
+    let count : 64 - length xs ≡ suc (63 - length xs) = omega arith in
+    rw (drop-replicate, count, set_at xs 0 (replicate (63 - length xs) 0) x (length xs) refl)
 
 -- bytes stored at a list's end
 pub sets_end : (l vs : List ℕ) (n : ℕ) → length l ≡ n + length vs → sets l n vs ≡ take n l ++ vs

@@ -28,15 +28,16 @@ impl State {
     pub fn new() -> State
         ensures { result ≡ fips.initial }
     {
+        let [a, b, c, d, e, f, g, h] = INITIAL;
         State {
-            a: INITIAL[0],
-            b: INITIAL[1],
-            c: INITIAL[2],
-            d: INITIAL[3],
-            e: INITIAL[4],
-            f: INITIAL[5],
-            g: INITIAL[6],
-            h: INITIAL[7],
+            a,
+            b,
+            c,
+            d,
+            e,
+            f,
+            g,
+            h,
         }
     }
 
@@ -108,128 +109,21 @@ impl State {
         self.round(k[t], w[t])
     }
 
-    // The rounds stand in eight functions of one shape, with literal numbers: the compiler takes a function
-    // of this size into its caller only where it is called from one place, and one loop over eight rounds
-    // is slower.
-
-    // Rounds 0 to 7.
-    fn rounds_0(self, k: &[u32; 64], w: &[u32; 64]) -> State
-        requires { k.now ≡ constants }
-        ensures { result ≡ fips.rounds 8 0 w.now self }
+    // Eight rounds from a number on. They are written out, and the number is a constant of each call: the
+    // compiler takes a function of this size into its caller only where it is called from one place, as
+    // each instance is, and one loop over eight rounds is slower (docs/SPEED.md, "Scalar SHA-256").
+    fn eight_rounds<const FROM: usize>(self, k: &[u32; 64], w: &[u32; 64]) -> State
+        requires { (FROM + 8 ≤ 64) × (k.now ≡ constants) }
+        ensures { result ≡ fips.rounds 8 FROM w.now self }
     {
-        self.round_at(k, w, 0)
-            .round_at(k, w, 1)
-            .round_at(k, w, 2)
-            .round_at(k, w, 3)
-            .round_at(k, w, 4)
-            .round_at(k, w, 5)
-            .round_at(k, w, 6)
-            .round_at(k, w, 7)
-    }
-
-    // Rounds 8 to 15.
-    fn rounds_8(self, k: &[u32; 64], w: &[u32; 64]) -> State
-        requires { k.now ≡ constants }
-        ensures { result ≡ fips.rounds 8 8 w.now self }
-    {
-        self.round_at(k, w, 8)
-            .round_at(k, w, 9)
-            .round_at(k, w, 10)
-            .round_at(k, w, 11)
-            .round_at(k, w, 12)
-            .round_at(k, w, 13)
-            .round_at(k, w, 14)
-            .round_at(k, w, 15)
-    }
-
-    // Rounds 16 to 23.
-    fn rounds_16(self, k: &[u32; 64], w: &[u32; 64]) -> State
-        requires { k.now ≡ constants }
-        ensures { result ≡ fips.rounds 8 16 w.now self }
-    {
-        self.round_at(k, w, 16)
-            .round_at(k, w, 17)
-            .round_at(k, w, 18)
-            .round_at(k, w, 19)
-            .round_at(k, w, 20)
-            .round_at(k, w, 21)
-            .round_at(k, w, 22)
-            .round_at(k, w, 23)
-    }
-
-    // Rounds 24 to 31.
-    fn rounds_24(self, k: &[u32; 64], w: &[u32; 64]) -> State
-        requires { k.now ≡ constants }
-        ensures { result ≡ fips.rounds 8 24 w.now self }
-    {
-        self.round_at(k, w, 24)
-            .round_at(k, w, 25)
-            .round_at(k, w, 26)
-            .round_at(k, w, 27)
-            .round_at(k, w, 28)
-            .round_at(k, w, 29)
-            .round_at(k, w, 30)
-            .round_at(k, w, 31)
-    }
-
-    // Rounds 32 to 39.
-    fn rounds_32(self, k: &[u32; 64], w: &[u32; 64]) -> State
-        requires { k.now ≡ constants }
-        ensures { result ≡ fips.rounds 8 32 w.now self }
-    {
-        self.round_at(k, w, 32)
-            .round_at(k, w, 33)
-            .round_at(k, w, 34)
-            .round_at(k, w, 35)
-            .round_at(k, w, 36)
-            .round_at(k, w, 37)
-            .round_at(k, w, 38)
-            .round_at(k, w, 39)
-    }
-
-    // Rounds 40 to 47.
-    fn rounds_40(self, k: &[u32; 64], w: &[u32; 64]) -> State
-        requires { k.now ≡ constants }
-        ensures { result ≡ fips.rounds 8 40 w.now self }
-    {
-        self.round_at(k, w, 40)
-            .round_at(k, w, 41)
-            .round_at(k, w, 42)
-            .round_at(k, w, 43)
-            .round_at(k, w, 44)
-            .round_at(k, w, 45)
-            .round_at(k, w, 46)
-            .round_at(k, w, 47)
-    }
-
-    // Rounds 48 to 55.
-    fn rounds_48(self, k: &[u32; 64], w: &[u32; 64]) -> State
-        requires { k.now ≡ constants }
-        ensures { result ≡ fips.rounds 8 48 w.now self }
-    {
-        self.round_at(k, w, 48)
-            .round_at(k, w, 49)
-            .round_at(k, w, 50)
-            .round_at(k, w, 51)
-            .round_at(k, w, 52)
-            .round_at(k, w, 53)
-            .round_at(k, w, 54)
-            .round_at(k, w, 55)
-    }
-
-    // Rounds 56 to 63.
-    fn rounds_56(self, k: &[u32; 64], w: &[u32; 64]) -> State
-        requires { k.now ≡ constants }
-        ensures { result ≡ fips.rounds 8 56 w.now self }
-    {
-        self.round_at(k, w, 56)
-            .round_at(k, w, 57)
-            .round_at(k, w, 58)
-            .round_at(k, w, 59)
-            .round_at(k, w, 60)
-            .round_at(k, w, 61)
-            .round_at(k, w, 62)
-            .round_at(k, w, 63)
+        self.round_at(k, w, FROM)
+            .round_at(k, w, FROM + 1)
+            .round_at(k, w, FROM + 2)
+            .round_at(k, w, FROM + 3)
+            .round_at(k, w, FROM + 4)
+            .round_at(k, w, FROM + 5)
+            .round_at(k, w, FROM + 6)
+            .round_at(k, w, FROM + 7)
     }
 
     // The sixty-four rounds (FIPS 180-4, 6.2.2, steps 2 and 3), written out, so that the compiler mixes
@@ -238,14 +132,14 @@ impl State {
         requires { k.now ≡ constants }
         ensures { result ≡ fips.rounds 64 0 w.now self }
     {
-        self.rounds_0(k, w)
-            .rounds_8(k, w)
-            .rounds_16(k, w)
-            .rounds_24(k, w)
-            .rounds_32(k, w)
-            .rounds_40(k, w)
-            .rounds_48(k, w)
-            .rounds_56(k, w)
+        self.eight_rounds::<0>(k, w)
+            .eight_rounds::<8>(k, w)
+            .eight_rounds::<16>(k, w)
+            .eight_rounds::<24>(k, w)
+            .eight_rounds::<32>(k, w)
+            .eight_rounds::<40>(k, w)
+            .eight_rounds::<48>(k, w)
+            .eight_rounds::<56>(k, w)
     }
 
     // The hash value after one more block of sixteen words (FIPS 180-4, 6.2.2).
@@ -262,12 +156,8 @@ impl State {
         ensures { result ≡ fips.hash self bytes.now }
     {
         let mut s = self;
-        let mut at = 0;
-        let mut left = bytes.len() / 64;
-        while 0 < left {
-            s = s.absorb(block_at(bytes, at));
-            at += 64;
-            left -= 1;
+        for block in bytes.chunks_exact(64) {
+            s = s.absorb(block_at(block, 0));
         }
         s
     }
@@ -303,10 +193,8 @@ pub fn block_at(bytes: &[u8], at: usize) -> [u32; 16]
     ensures { result ≡ fips.parse 16 (drop at bytes.now) }
 {
     let mut m = [0u32; 16];
-    let mut i = 0;
-    while i < 16 {
+    for i in 0..16 {
         m[i] = words::u32_at(bytes, at + 4 * i);
-        i += 1;
     }
     m
 }
@@ -317,12 +205,8 @@ fn closed(tail: &[u8]) -> [u8; 64]
     ensures { result ≡ tail.now ++ 128 ∷ replicate (63 - length tail.now) 0 }
 {
     let mut block = [0u8; 64];
-    let mut i = 0;
-    while i < tail.len() {
-        block[i] = tail[i];
-        i += 1;
-    }
-    block[i] = 128;
+    block[..tail.len()].copy_from_slice(tail);
+    block[tail.len()] = 128;
     block
 }
 
@@ -340,10 +224,8 @@ fn bytes_of(w: [u32; 8]) -> [u8; 32]
     ensures { result ≡ flat_map (be 4) w }
 {
     let mut bytes = [0u8; 32];
-    let mut i = 0;
-    while i < 8 {
+    for i in 0..8 {
         words::put_u32(&mut bytes, 4 * i, w[i]);
-        i += 1;
     }
     bytes
 }

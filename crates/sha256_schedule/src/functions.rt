@@ -7,7 +7,7 @@ ghost use Rattle.sha256_schedule.specs.Words.{◌⊞◌, ch, maj, Σ₀, Σ₁, 
 pub fn add(x: u32, y: u32) -> u32
     ensures { result ≡ x ⊞ y }
 {
-    std::num::wrapping_add_u32(x, y)
+    x.wrapping_add(y)
 }
 
 // The sum of four words modulo 2^32.
@@ -35,27 +35,27 @@ pub fn majority(x: u32, y: u32, z: u32) -> u32
 pub fn big_sigma0(x: u32) -> u32
     ensures { result ≡ Σ₀ x }
 {
-    let y = x ^ ((x >> 11) | (x << 21));
-    ((y >> 2) | (y << 30)) ^ ((x >> 22) | (x << 10))
+    let y = x ^ x.rotate_right(11);
+    y.rotate_right(2) ^ x.rotate_right(22)
 }
 
 pub fn big_sigma1(x: u32) -> u32
     ensures { result ≡ Σ₁ x }
 {
-    let y = x ^ ((x >> 5) | (x << 27));
-    ((y >> 6) | (y << 26)) ^ ((x >> 25) | (x << 7))
+    let y = x ^ x.rotate_right(5);
+    y.rotate_right(6) ^ x.rotate_right(25)
 }
 
 pub fn small_sigma0(x: u32) -> u32
     ensures { result ≡ σ₀ x }
 {
-    let y = x ^ ((x >> 11) | (x << 21));
-    ((y >> 7) | (y << 25)) ^ (x >> 3)
+    let y = x ^ x.rotate_right(11);
+    y.rotate_right(7) ^ (x >> 3)
 }
 
 pub fn small_sigma1(x: u32) -> u32
     ensures { result ≡ σ₁ x }
 {
-    let y = x ^ ((x >> 2) | (x << 30));
-    ((y >> 17) | (y << 15)) ^ (x >> 10)
+    let y = x ^ x.rotate_right(2);
+    y.rotate_right(17) ^ (x >> 10)
 }

@@ -26,103 +26,23 @@ fn word(w: &mut [u32; 64], t: usize)
     w[t] = next(w[t - 16], w[t - 15], w[t - 7], w[t - 2]);
 }
 
-// The words stand in six functions of one shape, with literal places, as the rounds of `sha256` do and for
-// the same reason: in a loop they are not mixed with the rounds, and a block takes a fifth longer.
-
-// The words at places 16 to 23.
-fn words_16(w: &mut [u32; 64])
+// Eight words from a place on. They are written out, and the place is a constant of each call, as in the
+// rounds of `sha256` and for the same reason: in a loop they are not mixed with the rounds, and a block
+// takes a fifth longer (docs/SPEED.md, "Scalar SHA-256").
+fn words<const FROM: usize>(w: &mut [u32; 64])
+    requires { (16 ≤ FROM) × (FROM + 8 ≤ 64) }
     ensures { (m : List ℕ) → (length w.old ≡ 64)
-        × (take 16 w.old ≡ fips.extend 0 m)
-        → (length w.new ≡ 64) × (take 24 w.new ≡ fips.extend 8 m) }
+        × (take FROM w.old ≡ fips.extend (FROM - 16) m)
+        → (length w.new ≡ 64) × (take (FROM + 8) w.new ≡ fips.extend (FROM + 8 - 16) m) }
 {
-    word(w, 16);
-    word(w, 17);
-    word(w, 18);
-    word(w, 19);
-    word(w, 20);
-    word(w, 21);
-    word(w, 22);
-    word(w, 23);
-}
-
-// The words at places 24 to 31.
-fn words_24(w: &mut [u32; 64])
-    ensures { (m : List ℕ) → (length w.old ≡ 64)
-        × (take 24 w.old ≡ fips.extend 8 m)
-        → (length w.new ≡ 64) × (take 32 w.new ≡ fips.extend 16 m) }
-{
-    word(w, 24);
-    word(w, 25);
-    word(w, 26);
-    word(w, 27);
-    word(w, 28);
-    word(w, 29);
-    word(w, 30);
-    word(w, 31);
-}
-
-// The words at places 32 to 39.
-fn words_32(w: &mut [u32; 64])
-    ensures { (m : List ℕ) → (length w.old ≡ 64)
-        × (take 32 w.old ≡ fips.extend 16 m)
-        → (length w.new ≡ 64) × (take 40 w.new ≡ fips.extend 24 m) }
-{
-    word(w, 32);
-    word(w, 33);
-    word(w, 34);
-    word(w, 35);
-    word(w, 36);
-    word(w, 37);
-    word(w, 38);
-    word(w, 39);
-}
-
-// The words at places 40 to 47.
-fn words_40(w: &mut [u32; 64])
-    ensures { (m : List ℕ) → (length w.old ≡ 64)
-        × (take 40 w.old ≡ fips.extend 24 m)
-        → (length w.new ≡ 64) × (take 48 w.new ≡ fips.extend 32 m) }
-{
-    word(w, 40);
-    word(w, 41);
-    word(w, 42);
-    word(w, 43);
-    word(w, 44);
-    word(w, 45);
-    word(w, 46);
-    word(w, 47);
-}
-
-// The words at places 48 to 55.
-fn words_48(w: &mut [u32; 64])
-    ensures { (m : List ℕ) → (length w.old ≡ 64)
-        × (take 48 w.old ≡ fips.extend 32 m)
-        → (length w.new ≡ 64) × (take 56 w.new ≡ fips.extend 40 m) }
-{
-    word(w, 48);
-    word(w, 49);
-    word(w, 50);
-    word(w, 51);
-    word(w, 52);
-    word(w, 53);
-    word(w, 54);
-    word(w, 55);
-}
-
-// The words at places 56 to 63.
-fn words_56(w: &mut [u32; 64])
-    ensures { (m : List ℕ) → (length w.old ≡ 64)
-        × (take 56 w.old ≡ fips.extend 40 m)
-        → (length w.new ≡ 64) × (take 64 w.new ≡ fips.extend 48 m) }
-{
-    word(w, 56);
-    word(w, 57);
-    word(w, 58);
-    word(w, 59);
-    word(w, 60);
-    word(w, 61);
-    word(w, 62);
-    word(w, 63);
+    word(w, FROM);
+    word(w, FROM + 1);
+    word(w, FROM + 2);
+    word(w, FROM + 3);
+    word(w, FROM + 4);
+    word(w, FROM + 5);
+    word(w, FROM + 6);
+    word(w, FROM + 7);
 }
 
 // The sixty-four words of a block's schedule, written out, so that the compiler keeps them in registers.
@@ -130,16 +50,12 @@ pub fn schedule(m: [u32; 16]) -> [u32; 64]
     ensures { result ≡ fips.schedule m }
 {
     let mut w = [0u32; 64];
-    let mut i = 0;
-    while i < 16 {
-        w[i] = m[i];
-        i += 1;
-    }
-    words_16(&mut w);
-    words_24(&mut w);
-    words_32(&mut w);
-    words_40(&mut w);
-    words_48(&mut w);
-    words_56(&mut w);
+    w[..16].copy_from_slice(&m);
+    words::<16>(&mut w);
+    words::<24>(&mut w);
+    words::<32>(&mut w);
+    words::<40>(&mut w);
+    words::<48>(&mut w);
+    words::<56>(&mut w);
     w
 }

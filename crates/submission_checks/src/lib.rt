@@ -17,7 +17,7 @@ ghost use Rattle.submission_checks.specs.Checks.{leader_checks, log_checks, part
 ghost use Rattle.submission_checks.specs.Pointers.{PointersHanded};
 
 use log_terms::LogPointers;
-use submission_parts::{CommitPart, Shape};
+use submission_parts::Shape;
 
 // What validating a submission gives: its number, and the pointers of its committed records and of its log,
 // both pointer 0 where it is refused.
@@ -44,7 +44,7 @@ fn index_within_log(s: &[u8], shape: Shape) -> bool
     ensures { result ≡ paper.within (view_in shape s.now).commit
         (length (view_in shape s.now).log) }
 {
-    let CommitPart::Found(c, _) = submission_parts::commit_part(s, shape.width, shape.size) else {
+    let Some((c, _)) = submission_parts::commit_part(s, shape.width, shape.size) else {
         return true;
     };
     let index = c.index as usize;

@@ -8,12 +8,13 @@ use native.Mathlib.Nat.{mul-suc, add_comm}
 use native.Mathlib.Numerals.{add-one}
 use native.Mathlib.Omega.{arith}
 use lib.ListN.{length, take, drop, get_or, replicate, length-append, length-drop, length-replicate, replicate-append-replicate}
-use lib.Dec.{lit≤}
+use lib.Dec.{eqb, lit≤}
+use lib.Pointwise.{pointwise}
 use lib.Seq.{take_at, drop_at, drop-drop, take-take, take-add, sets, length-take-le}
 use Rattle.words.specs.BigEndian.{be, number, number_at, same}
 use Rattle.words.specs.Over.{over}
 use Rattle.words.proofs.Laws.{length-be, number-be, take-sets, sets-append, drop-take}
-use Rattle.words.proofs.Same.{same_true, true_same, same_test}
+use Rattle.words.proofs.Same.{same_true, true_same, same_test, pointwise_same}
 use Rattle.lm_format.specs.Leaf.{leaf_number}
 use Rattle.lm_format.specs.Uses.{Use, use_of, reused}
 use Rattle.submission.specs.Sizes.{statement_most}
@@ -128,11 +129,11 @@ module _ (b : List ℕ) where
     unfolding reused entry_use use_of
     other-leaf h = rw (entry-leaf one, entry-leaf other, leaves_differ (number_at 4 b one) (number_at 4 b other) h)
 
-    pub by-messages : (r : Bool) → number_at 4 b one ≡ number_at 4 b other
-        → r ≡ same (take (one + entry_size - (one + 4)) (drop (one + 4) b)) (take (other + entry_size - (other + 4)) (drop (other + 4) b))
-        → not r ≡ reused (entry_use (take entry_size (drop one b))) (entry_use (take entry_size (drop other b)))
+    pub by-messages : number_at 4 b one ≡ number_at 4 b other
+        → not (pointwise eqb (take (one + entry_size - (one + 4)) (drop (one + 4) b)) (take (other + entry_size - (other + 4)) (drop (other + 4) b)))
+        ≡ reused (entry_use (take entry_size (drop one b))) (entry_use (take entry_size (drop other b)))
     unfolding reused entry_use use_of
-    by-messages r h e = rw (entry-leaf one, entry-leaf other, leaf-same _ _ h, entry-message one, entry-message other, e)
+    by-messages h = rw (entry-leaf one, entry-leaf other, leaf-same _ _ h, entry-message one, entry-message other, pointwise_same)
 
 -- ---- the number of an entry's leaf
 

@@ -38,11 +38,7 @@ fn entries_reused(buffer: &[u8], one: usize, other: usize) -> bool
     if words::u32_at(buffer, one) != words::u32_at(buffer, other) {
         return false;
     }
-    let one_from = one + LEAF_SIZE;
-    let one_to = one + ENTRY_SIZE;
-    let other_from = other + LEAF_SIZE;
-    let other_to = other + ENTRY_SIZE;
-    !check::same(&buffer[one_from..one_to], &buffer[other_from..other_to])
+    buffer[one + LEAF_SIZE..one + ENTRY_SIZE] != buffer[other + LEAF_SIZE..other + ENTRY_SIZE]
 }
 
 // Whether the leaf of entry i is that of another of n entries, with a different message.
@@ -51,12 +47,10 @@ pub fn leaf_reused(buffer: &[u8], n: usize, i: usize) -> bool
     ensures { result ≡ reused_in (entry_use_at i buffer.now) (entry_uses n buffer.now) }
 {
     let one = ENTRY_SIZE * i;
-    let mut j = 0;
-    while j < n {
+    for j in 0..n {
         if entries_reused(buffer, one, ENTRY_SIZE * j) {
             return true;
         }
-        j += 1;
     }
     false
 }

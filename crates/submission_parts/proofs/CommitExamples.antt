@@ -2,6 +2,7 @@
 -- Assumes nothing.
 use mathlib.Core.Path.{◌≡◌, refl}
 use mathlib.Core.List.{List, [], ◌∷◌, ◌++◌, flat_map}
+use Rattle.std.specs.Prelude.{Some, None}
 use Prim.Native.Nat.{ℕ}
 use lib.Count.{ones, ones_in}
 use lib.ListN.{replicate}
@@ -10,7 +11,6 @@ use Rattle.submission.specs.Trailer.{word, record_count, leader_count, distance}
 use Rattle.log_chain.specs.Records.{record_size}
 use Rattle.submission.specs.Reading.{ballot_size, signers_at, certificate_end, certificates_end, commit_at, leaders_from, stamps_from, commit_from}
 use Rattle.submission_parts.specs.Reader.{commit_numbers_at}
-use Rattle.submission_parts.specs.declared.CommitPart.TheVariants.{Found, Absent}
 use Rattle.submission_parts.specs.Commits.{commit_part}
 
 -- a trailer of no records: L, the fourth distance
@@ -21,7 +21,7 @@ trailer L back = replicate 16 7 ++ be 4 0 ++ be 4 L ++ flat_map (be 4) (0 ∷ 0 
 parts : List ℕ
 parts = replicate 46 2 ++ be 2 3 ++ (10 ∷ 11 ∷ 12 ∷ []) ++ be 4 1 ++ be 2 5 ++ (13 ∷ 14 ∷ [])
 
-commits : (commit_part 4 1 (parts ++ trailer 1 8) ≡ Found (record { index = 1; signers = 5 }) 51) × (commit_part 4 1 (trailer 0 0) ≡ Absent)
+commits : (commit_part 4 1 (parts ++ trailer 1 8) ≡ Some (record { index = 1; signers = 5 }, 51)) × (commit_part 4 1 (trailer 0 0) ≡ None)
 unfolding parts trailer commit_part commit_numbers_at leaders_from stamps_from commit_from certificates_end certificate_end commit_at signers_at record_size ballot_size distance record_count leader_count
     word number_at number be flat_map ones ones_in
 commits = (refl, refl)

@@ -1,16 +1,9 @@
 -- What a reader of a certificate gives (document 01, "A submission, read from its trailer": "either its
 -- fields with the next place, or a refusal"): a certificate is refused, number 9, where it does not lie
 -- before an end.
-use Rattle.std.specs.Prelude.{cond, List, [], ◌∷◌, ℕ, ◌+◌, leb}
+use Rattle.std.specs.Prelude.{cond, List, [], ◌∷◌, ℕ, ◌+◌, leb, Option, Some, None}
 use Rattle.submission_parts.specs.declared.Certificate.{Certificate}
-use Rattle.submission_parts.specs.declared.Reading.{Reading}
-use Rattle.submission_parts.specs.declared.Reading.TheVariants.{Read, Refused}
-use Rattle.submission_parts.specs.declared.Place.{Place}
-use Rattle.submission_parts.specs.declared.Place.TheVariants.{At, Refused as Beyond}
 use Rattle.submission_parts.specs.declared.Commit.{Commit}
-use Rattle.submission_parts.specs.declared.CommitReading.{CommitReading}
-use Rattle.submission_parts.specs.declared.CommitReading.TheVariants.{Read as ReadCommit}
-use Rattle.submission_parts.specs.declared.CommitReading.TheVariants.{Refused as NoCommit}
 use Rattle.refusal.specs.Checks.{check, refusal}
 pub use Rattle.roster.specs.Sizes.{signature_most}
 use Rattle.submission.specs.Reading.{ballot_size, ballot_at, signers_at, certificate_end, certificates_end}
@@ -39,19 +32,10 @@ numbers_at w s at =
 unfoldable pub commit_numbers_at : List ℕ → ℕ → Commit
 commit_numbers_at s at = let c = commit_at s at in record { index = c.index; signers = c.signers }
 
--- ---- document 01's number of each answer: 0 for what was read, 9 for a refusal
-
-unfoldable pub reading_number : Reading → ℕ
-reading_number (Read c next) = 0
-reading_number Refused = 9
-
-unfoldable pub place_number : Place → ℕ
-place_number (At place) = 0
-place_number Beyond = 9
-
-unfoldable pub commit_reading_number : CommitReading → ℕ
-commit_reading_number (ReadCommit c next) = 0
-commit_reading_number NoCommit = 9
+-- document 01's number of a reader's answer: 0 for what was read, 9 for a refusal
+unfoldable pub answer_number : {Answer : Type 0} → Option Answer → ℕ
+answer_number (Some read) = 0
+answer_number None = 9
 
 -- 9: what ends at a place ends by an end
 unfoldable pub end_number : ℕ → ℕ → ℕ
@@ -59,19 +43,19 @@ end_number place end = refusal (check 9 (leb place end) ∷ [])
 
 module _ (w S : ℕ) (s : List ℕ) where
   -- the leader certificate at a place
-  unfoldable pub reading : ℕ → ℕ → Reading
+  unfoldable pub reading : ℕ → ℕ → Option (Certificate × ℕ)
   reading at end =
       let next = certificate_end w S s at in
-      cond (leb next end) (Read (numbers_at w s at) next) Refused
+      cond (leb next end) (Some (numbers_at w s at, next)) None
 
   -- so many leader certificates, one after the other
-  unfoldable pub place_after : ℕ → ℕ → ℕ → Place
+  unfoldable pub place_after : ℕ → ℕ → ℕ → Option ℕ
   place_after count at end =
-      let next = certificates_end w S s count at in cond (leb next end) (At next) Beyond
+      let next = certificates_end w S s count at in cond (leb next end) (Some next) None
 
 module _ (S : ℕ) (s : List ℕ) where
   -- the commit certificate at a place
-  unfoldable pub commit_reading : ℕ → ℕ → CommitReading
+  unfoldable pub commit_reading : ℕ → ℕ → Option (Commit × ℕ)
   commit_reading at end =
       let next = commit_end S s at in
-      cond (leb next end) (ReadCommit (commit_numbers_at s at) next) NoCommit
+      cond (leb next end) (Some (commit_numbers_at s at, next)) None

@@ -11,7 +11,7 @@ ghost use Rattle.submission_parts.specs.Parts.{Bounds, commit_tests, leader_test
 ghost use Rattle.submission_parts.specs.Shapes.{shape_of};
 ghost use Rattle.submission.specs.Validate.{submission_most, record_most, leader_most};
 
-use super::{CommitReading, Place, Shape};
+use super::Shape;
 
 // Whether part 4, which begins at a place, stands where its distance says and ends at the trailer.
 fn commit_stands(s: &[u8], from: usize, size: usize) -> bool
@@ -27,7 +27,7 @@ fn commit_stands(s: &[u8], from: usize, size: usize) -> bool
     if back == 0 {
         return true;
     }
-    let CommitReading::Read(_, next) = super::read_commit(s, from, end, size) else {
+    let Some((_, next)) = super::read_commit(s, from, end, size) else {
         return false;
     };
     next == end
@@ -40,7 +40,7 @@ fn leaders_stand(s: &[u8], from: usize, width: usize, size: usize) -> bool
 {
     let end = submission_trailer::trailer_at(s);
     let leaders = submission_trailer::leader_count(s);
-    let Place::At(stamps) = super::place_after(s, leaders, from, end, width, size) else {
+    let Some(stamps) = super::place_after(s, leaders, from, end, width, size) else {
         return false;
     };
     if stamps + submission_trailer::distance(s, 3) != end {

@@ -28,39 +28,11 @@ pub struct Certificate {
     pub signers: u16,
 }
 
-// A leader certificate that was read, with the next place.
-#[derive(Clone, Copy)]
-pub enum Reading {
-    Read(Certificate, usize),
-    Refused,
-}
-
-// The place after so many leader certificates.
-#[derive(Clone, Copy)]
-pub enum Place {
-    At(usize),
-    Refused,
-}
-
 // The numbers of a commit certificate.
 #[derive(Clone, Copy)]
 pub struct Commit {
     pub index: u32,
     pub signers: u16,
-}
-
-// A commit certificate that was read, with the next place.
-#[derive(Clone, Copy)]
-pub enum CommitReading {
-    Read(Commit, usize),
-    Refused,
-}
-
-// Part 4: a commit certificate and its place, or none.
-#[derive(Clone, Copy)]
-pub enum CommitPart {
-    Found(Commit, usize),
-    Absent,
 }
 
 // What check 9 leaves known of a submission: its widths, its counts, and where parts 2 and 3 stand.
@@ -92,24 +64,29 @@ pub fn certificate_end(s: &[u8], at: usize, width: usize, size: usize) -> usize
     fields + SIGNERS_SIZE + size * (u16::count_ones(signers) as usize)
 }
 
-// The leader certificate at a place.
-pub fn read(s: &[u8], at: usize, end: usize, width: usize, size: usize) -> Reading
+// The leader certificate at a place, with the next place; none where it does not lie before the end.
+pub fn read(
+    s: &[u8],
+    at: usize,
+    end: usize,
+    width: usize,
+    size: usize,
+) -> Option<(Certificate, usize)>
     requires { (at ≤ end) × (end ≤ length s.now) × (length s.now ≤ submission_most)
         × (width ≤ width_most) × (size ≤ inner.signature_most) }
     ensures { (result ≡ inner.reading width size s.now at end)
-        × (inner.reading_number result ≡ inner.end_number (certificate_end width size s.now at) end) }
+        × (inner.answer_number result ≡ inner.end_number (certificate_end width size s.now at) end) }
 {
     let fields = at + submission::ballot_size(width);
     if end < fields + SIGNERS_SIZE {
-        return Reading::Refused;
+        return None;
     }
     let signers = words::u16_at(s, fields);
     let next = fields + SIGNERS_SIZE + signatures_size(signers, size);
     if end < next {
-        return Reading::Refused;
+        return None;
     }
-    let numbers = numbers_at(s, at, width);
-    Reading::Read(numbers, next)
+    Some((numbers_at(s, at, width), next))
 }
 
 // The numbers of the leader certificate at a place.
@@ -129,7 +106,7 @@ pub fn numbers_at(s: &[u8], at: usize, width: usize) -> Certificate
     }
 }
 
-// The place after so many leader certificates from a place on.
+// The place after so many leader certificates from a place on; none where they do not lie before the end.
 pub fn place_after(
     s: &[u8],
     count: usize,
@@ -137,64 +114,54 @@ pub fn place_after(
     end: usize,
     width: usize,
     size: usize,
-) -> Place
+) -> Option<usize>
     requires { (from ≤ end) × (end ≤ length s.now) × (length s.now ≤ submission_most)
         × (width ≤ width_most) × (size ≤ inner.signature_most) }
     ensures { (result ≡ inner.place_after width size s.now count from end)
-        × (inner.place_number result
+        × (inner.answer_number result
         ≡ inner.end_number (certificates_end width size s.now count from) end) }
 {
     let mut at = from;
-    let mut left = count;
-    while 0 < left {
-        let Reading::Read(_, next) = read(s, at, end, width, size) else {
-            return Place::Refused;
-        };
+    for _ in 0..count {
+        let (_, next) = read(s, at, end, width, size)?;
         at = next;
-        left -= 1;
     }
-    Place::At(at)
+    Some(at)
 }
 
-// The commit certificate at a place.
-pub fn read_commit(s: &[u8], at: usize, end: usize, size: usize) -> CommitReading
+// The commit certificate at a place, with the next place; none where it does not lie before the end.
+pub fn read_commit(s: &[u8], at: usize, end: usize, size: usize) -> Option<(Commit, usize)>
     requires { (at ≤ end) × (end ≤ length s.now) × (length s.now ≤ submission_most)
         × (size ≤ inner.signature_most) }
     ensures { (result ≡ inner.commit_reading size s.now at end)
-        × (inner.commit_reading_number result ≡ inner.end_number (commit_end size s.now at) end) }
+        × (inner.answer_number result ≡ inner.end_number (commit_end size s.now at) end) }
 {
     if end < at + COMMIT_FIELDS_SIZE {
-        return CommitReading::Refused;
+        return None;
     }
     let index = words::u32_at(s, at);
     let signers = words::u16_at(s, at + COMMIT_SIGNERS_AT);
     let next = at + COMMIT_FIELDS_SIZE + signatures_size(signers, size);
     if end < next {
-        return CommitReading::Refused;
+        return None;
     }
-    let numbers = Commit {
-        index: index,
-        signers: signers,
-    };
-    CommitReading::Read(numbers, next)
+    Some((Commit { index, signers }, next))
 }
 
-// The commit certificate of a laid-out submission. Check 9 has read it before, and handed a refusal up
-// (`layout::commit_stands`): here the proof shows that none comes.
-pub fn commit_part(s: &[u8], width: usize, size: usize) -> CommitPart
+// The commit certificate of a laid-out submission with its place, where there is one. Check 9 has read it
+// before, and handed a refusal up (`layout::commit_stands`): here the proof shows that none comes.
+pub fn commit_part(s: &[u8], width: usize, size: usize) -> Option<(Commit, usize)>
     requires { Bounds width size s.now × (laid_out width size s.now ≡ true) }
     ensures { result ≡ commit_part width size s.now }
 {
     let back = submission_trailer::distance(s, 4);
     if back == 0 {
-        return CommitPart::Absent;
+        return None;
     }
     let end = submission_trailer::trailer_at(s);
     let at = end - back;
-    let CommitReading::Read(numbers, _) = read_commit(s, at, end, size) else {
-        return CommitPart::Absent;
-    };
-    CommitPart::Found(numbers, at)
+    let (numbers, _) = read_commit(s, at, end, size)?;
+    Some((numbers, at))
 }
 
 // The index of a laid-out submission's commit certificate, 0 where there is none.
@@ -202,7 +169,7 @@ pub fn commit_index(s: &[u8], width: usize, size: usize) -> usize
     requires { Bounds width size s.now × (laid_out width size s.now ≡ true) }
     ensures { result ≡ commit_index (commit_of width size s.now) }
 {
-    let CommitPart::Found(c, _) = commit_part(s, width, size) else {
+    let Some((c, _)) = commit_part(s, width, size) else {
         return 0;
     };
     c.index as usize

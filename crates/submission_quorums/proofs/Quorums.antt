@@ -6,12 +6,11 @@ use mathlib.Core.List.{List, map}
 use Prim.Native.Nat.{ℕ, ◌+◌, ◌-◌, ◌≤◌, ◌<◌}
 use native.Mathlib.Omega.{arith}
 use borrow.Author.Tests.{not-true, not-false}
+use Rattle.std.specs.Prelude.{Some, None}
 use Rattle.refusal.specs.Checks.{every}
 use Rattle.refusal.proofs.Laws.{every_append}
 use Rattle.submission_parts.specs.declared.Certificate.{Certificate as Numbers}
-use Rattle.submission_parts.specs.declared.Reading.TheVariants.{Read, Refused}
 use Rattle.submission_parts.specs.declared.Commit.{Commit}
-use Rattle.submission_parts.specs.declared.CommitPart.TheVariants.{Found, Absent}
 use Rattle.submission.specs.Trailer.{leader_count}
 use Rattle.submission.specs.View.{Certificate}
 use Rattle.submission.specs.Reading.{ballot_size, signers_at, certificate_at, certificate_end, certificates, certificates_end, commit_at, leaders_from, commit_of, view}
@@ -34,12 +33,12 @@ masks-first w S s n left at more =
 
 module _ (w S : ℕ) (s : List ℕ) (n left at end : ℕ) {b : Bool} (rest : every (quorate n) (leader_masks w S s left at) ≡ b) where
   module _ (more : 0 < left) (inside : certificates_end w S s left at ≤ end) where
-    pub never-refused : reading w S s at end ≡ Refused → false ≡ b
+    pub never-refused : reading w S s at end ≡ None → false ≡ b
     never-refused e =
         let first = end-first w S s left at more in
         absurd (omega (arith, refused-passes w S s at end e, certificates-from w S s (left - 1) (certificate_end w S s at)))
 
-    module _ {c : Numbers} {next : ℕ} (told : reading w S s at end ≡ Read c next) {r : Bool} (asked : r ≡ quorate n c.signers) where
+    module _ {c : Numbers} {next : ℕ} (told : reading w S s at end ≡ Some (c, next)) {r : Bool} (asked : r ≡ quorate n c.signers) where
       first-mask : cond r (every (quorate n) (leader_masks w S s (left - 1) next)) false ≡ b
       unfolding numbers_at
       first-mask =
@@ -62,7 +61,7 @@ module _ (w S : ℕ) (s : List ℕ) (n left at end : ℕ) {b : Bool} (rest : eve
 -- ---- every certificate
 
 module _ (w S : ℕ) (s : List ℕ) (n : ℕ) where
-  pub commit-signers : {c : Commit} {at : ℕ} → commit_part w S s ≡ Found c at → quorate n c.signers ≡ every (quorate n) (commit_signers (commit_of w S s))
+  pub commit-signers : {c : Commit} {at : ℕ} → commit_part w S s ≡ Some (c, at) → quorate n c.signers ≡ every (quorate n) (commit_signers (commit_of w S s))
   unfolding commit_signers commit_numbers_at every
   commit-signers {c} {at} e =
       let says = found-says w S s e in
@@ -72,7 +71,7 @@ module _ (w S : ℕ) (s : List ℕ) (n : ℕ) where
       one true = refl
       one false = refl
 
-  pub no-signers : commit_part w S s ≡ Absent → true ≡ every (quorate n) (commit_signers (commit_of w S s))
+  pub no-signers : commit_part w S s ≡ None → true ≡ every (quorate n) (commit_signers (commit_of w S s))
   unfolding commit_signers every
   no-signers e = rw (absent-says w S s e)
 

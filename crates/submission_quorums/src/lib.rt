@@ -10,8 +10,6 @@ ghost use Rattle.submission_parts.specs.Parts.{Bounds};
 ghost use Rattle.submission_quorums.specs.Signers.{leader_masks};
 ghost use Rattle.submission.specs.Validate as paper;
 
-use submission_parts::{CommitPart, Reading};
-
 // Whether a mask has a quorum of n replicas, and no bit above replica n.
 pub fn mask_quorate(n: usize, mask: u16) -> bool
     requires { (0 < n) × (n ≤ 9) }
@@ -40,16 +38,14 @@ fn leaders_quorate(
     ensures { result ≡ every (paper.quorate n) (leader_masks width size s.now count from) }
 {
     let mut at = from;
-    let mut left = count;
-    while 0 < left {
-        let Reading::Read(c, next) = submission_parts::read(s, at, end, width, size) else {
+    for _ in 0..count {
+        let Some((c, next)) = submission_parts::read(s, at, end, width, size) else {
             return false;
         };
         if !mask_quorate(n, c.signers) {
             return false;
         }
         at = next;
-        left -= 1;
     }
     true
 }
@@ -60,7 +56,7 @@ fn commit_quorate(s: &[u8], n: usize, width: usize, size: usize) -> bool
     ensures { result
         ≡ every (paper.quorate n) (paper.commit_signers (commit_of width size s.now)) }
 {
-    let CommitPart::Found(commit, _) = submission_parts::commit_part(s, width, size) else {
+    let Some((commit, _)) = submission_parts::commit_part(s, width, size) else {
         return true;
     };
     mask_quorate(n, commit.signers)

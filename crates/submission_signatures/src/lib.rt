@@ -9,7 +9,7 @@ ghost use Rattle.submission_parts.specs.Shapes.{view_in};
 ghost use Rattle.submission_signatures.specs.Genuine.{genuine_in};
 
 use log_terms::LogPointers;
-use submission_parts::{CommitPart, Shape};
+use submission_parts::Shape;
 
 pub mod receipts;
 pub mod stamps;
@@ -29,7 +29,7 @@ fn places_good(roster: &[u8], s: &[u8], shape: Shape, pointers: LogPointers) -> 
     if !stamps::stamps_good(roster, s, shape, pointers.last) {
         return false;
     }
-    let CommitPart::Found(_, at) = submission_parts::commit_part(s, shape.width, shape.size) else {
+    let Some((_, at)) = submission_parts::commit_part(s, shape.width, shape.size) else {
         return true;
     };
     receipts::receipts_good(roster, s, shape, at, pointers.committed)

@@ -11,7 +11,7 @@ ghost use Rattle.submission.specs.Reading.{commit_at, commit_from, commit_of};
 ghost use Rattle.submission_signatures.specs.Checked.{Checked};
 ghost use Rattle.submission_signatures.specs.Genuine.{genuine_in};
 
-use log_chain::RECEIPT;
+use log_chain::Kind;
 use sha256::State;
 use submission::{COMMIT_FIELDS_SIZE, COMMIT_SIGNERS_AT, STATEMENT_MOST};
 use submission_parts::Shape;
@@ -34,7 +34,7 @@ pub fn receipts_good(roster: &[u8], s: &[u8], shape: Shape, at: usize, pointer: 
     let mut statement = [0u8; STATEMENT_MOST];
     let end = log_chain::put_place_statement(
         &mut statement,
-        RECEIPT,
+        Kind::Receipt as u8,
         &roster[..roster::NAME_SIZE],
         shape.width,
         term,

@@ -14,7 +14,7 @@ ghost use Rattle.submission_signatures.specs.Checked.{Checked};
 ghost use Rattle.submission_parts.specs.Shapes.{view_in};
 ghost use Rattle.submission_signatures.specs.Genuine.{genuine_in};
 
-use log_chain::STAMP;
+use log_chain::Kind;
 use sha256::State;
 use submission::{STATEMENT_MOST, TERM_AT};
 use submission_parts::Shape;
@@ -42,7 +42,7 @@ fn stamp_good(
     let mut statement = [0u8; STATEMENT_MOST];
     let length = log_chain::put_place_statement(
         &mut statement,
-        STAMP,
+        Kind::Stamp as u8,
         &roster[..roster::NAME_SIZE],
         width,
         term,

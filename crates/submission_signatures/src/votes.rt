@@ -10,7 +10,7 @@ ghost use Rattle.submission_signatures.specs.Checked.{Checked};
 ghost use Rattle.submission_parts.specs.Shapes.{view_in};
 ghost use Rattle.submission_signatures.specs.Genuine.{genuine_in};
 
-use log_chain::VOTE;
+use log_chain::Kind;
 use submission::{SIGNERS_SIZE, STATEMENT_MOST};
 use submission_parts::Shape;
 
@@ -27,7 +27,7 @@ fn votes_good_at(roster: &[u8], s: &[u8], width: usize, size: usize, at: usize) 
     let mut statement = [0u8; STATEMENT_MOST];
     let length = log_chain::put_vote_statement(
         &mut statement,
-        VOTE,
+        Kind::Vote as u8,
         &roster[..roster::NAME_SIZE],
         &s[at..end],
     );

@@ -14,7 +14,7 @@ ghost use Rattle.submission_uses.specs.Signed as inner;
 
 use log_terms::LogPointers;
 use sha256::State;
-use submission_parts::{CommitPart, Shape};
+use submission_parts::Shape;
 
 pub mod receipts;
 pub mod stamps;
@@ -59,7 +59,7 @@ pub fn gather(
 {
     let voted = votes::add_votes(roster, s, shape, k, buffer, n);
     let stamped = stamps::add_stamps(roster, s, shape, pointers.last, k, buffer, voted);
-    let CommitPart::Found(_, at) = submission_parts::commit_part(s, shape.width, shape.size) else {
+    let Some((_, at)) = submission_parts::commit_part(s, shape.width, shape.size) else {
         return stamped;
     };
     receipts::add_receipt(roster, s, shape, at, pointers.committed, k, buffer, stamped)

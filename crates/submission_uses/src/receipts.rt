@@ -13,7 +13,7 @@ ghost use Rattle.lm_format.specs.Leaf.{leaf_size};
 ghost use Rattle.submission_leaves.specs.Entries.{entry_size, padded_use, entry_uses};
 ghost use Rattle.submission_uses.specs.Signed.{mask_bits, slot_use_in};
 
-use log_chain::RECEIPT;
+use log_chain::Kind;
 use sha256::State;
 use submission::{COMMIT_FIELDS_SIZE, COMMIT_SIGNERS_AT, STATEMENT_MOST};
 use submission_parts::Shape;
@@ -53,7 +53,7 @@ pub fn add_receipt(
     let mut statement = [0u8; STATEMENT_MOST];
     let length = log_chain::put_place_statement(
         &mut statement,
-        RECEIPT,
+        Kind::Receipt as u8,
         &roster[..roster::NAME_SIZE],
         shape.width,
         term,

@@ -16,7 +16,7 @@ ghost use Rattle.submission_uses.specs.Signed.{slot_use_in};
 ghost use Rattle.submission_uses.specs.StampUses.{stamp_uses};
 
 use super::StampPart;
-use log_chain::STAMP;
+use log_chain::Kind;
 use sha256::State;
 use submission::{STATEMENT_MOST, TERM_AT};
 use submission_parts::Shape;
@@ -48,7 +48,7 @@ fn add_stamp(
     let mut statement = [0u8; STATEMENT_MOST];
     let length = log_chain::put_place_statement(
         &mut statement,
-        STAMP,
+        Kind::Stamp as u8,
         &roster[..roster::NAME_SIZE],
         width,
         term,

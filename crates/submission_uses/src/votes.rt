@@ -13,7 +13,7 @@ ghost use Rattle.lm_format.specs.Leaf.{leaf_size};
 ghost use Rattle.submission_leaves.specs.Entries.{entry_size, padded_use, entry_uses};
 ghost use Rattle.submission_uses.specs.Signed.{mask_bits, slot_use_in};
 
-use log_chain::VOTE;
+use log_chain::Kind;
 use submission::{SIGNERS_SIZE, STATEMENT_MOST};
 use submission_parts::Shape;
 
@@ -47,7 +47,7 @@ fn add_vote(
     let mut statement = [0u8; STATEMENT_MOST];
     let length = log_chain::put_vote_statement(
         &mut statement,
-        VOTE,
+        Kind::Vote as u8,
         &roster[..roster::NAME_SIZE],
         &s[at..end],
     );

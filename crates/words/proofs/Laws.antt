@@ -1,17 +1,19 @@
 -- The laws of big-endian numbers, over the width: length, bytes, value and injectivity of `be`, and how a number at a place is read byte by byte.
 -- Assumes nothing.
 use mathlib.Core.Path.{◌≡◌, refl, sym, ap, ◌∙◌}
-use mathlib.Core.List.{List, [], ◌∷◌, ◌++◌}
+use mathlib.Core.List.{List, [], ◌∷◌, ◌++◌, append_assoc}
 use mathlib.Core.Logic.{◌⊎◌, inl, inr}
 use Prim.Native.Nat.{ℕ, zero, suc, ◌+◌, ◌-◌, ◌*◌, ◌/◌, ◌%◌, ◌^◌, ◌≤◌, ◌<◌}
-use native.Mathlib.Nat.{add-zero, add-suc, add_comm, add-mul-div_right, mul-add-mod_self_right, le_refl, zero-mul, add-mul, mul_assoc, zero-add, suc-add, pow-le-pow_right, div-eq_of_lt, lt_of_lt_of_le, add_assoc, mod-lt, mod-one, mod-eq_of_lt, pow-suc, pow-succ', div-one, mul_comm, div-div-eq-div-mul}
+use native.Mathlib.Nat.{add-zero, add-suc, add_comm, add-mul-div_right, mul-add-mod_self_right, le_refl, zero-mul, add-mul, mul_assoc, zero-add, suc-add, pow-le-pow_right, div-eq_of_lt, lt_of_lt_of_le, add_assoc, mod-lt, mod-one, mod-eq_of_lt, pow-suc, pow-succ', div-one}
 use native.Mathlib.Numerals.{add-one}
 use native.Mathlib.Omega.{arith}
+use Rattle.std.specs.Int.{w16, w32, w64, to_be_bytes}
 use lib.Arith.{mod-mul, digits_lt, digits_div}
 use lib.Pow.{pow-add}
 use lib.Dec.{lit<}
 use lib.ListN.{length, take, drop, get_or, length-take, length-drop, length-append, replicate, set}
-use lib.Seq.{take-nil, take-suc, drop-cons, drop-drop, drop-set-lt, drop-set-add, take_all, take_at, take-set-le, drop_at, length-take-le, sets, sets-eq, get_or-drop, set_comm}
+use borrow.Rule.Slice.PartMut.{put_mid}
+use lib.Seq.{take-nil, take-suc, drop-cons, drop-drop, drop-set-lt, drop-set-add, take_all, take_at, take-take, take-set-le, drop_at, length-take-le, sets, sets-eq, get_or-drop}
 use Rattle.words.specs.BigEndian.{number, be, number_at}
 use Rattle.words.proofs.Bytes.{Bytes, none, more}
 
@@ -82,6 +84,16 @@ bytes_take zero l h = none
 bytes_take (suc n) [] h = none
 bytes_take (suc n) (x ∷ xs) (more b t) = more b (bytes_take n xs t)
 
+-- ---- the end of a list
+
+-- a part that ends where the list does
+pub part_end : (l : List ℕ) (n : ℕ) → take (length l - n) (drop n l) ≡ drop n l
+part_end l n = take_all (length l - n) (drop n l) (rw length-drop (le_refl (length l - n)))
+
+-- a part of so many elements, from its start to its end
+pub part_from : (l : List ℕ) (n k : ℕ) → take (n + k - n) (drop n l) ≡ take k (drop n l)
+part_from l n k = let size : n + k - n ≡ k = omega arith in ap (λ (m : ℕ). take m (drop n l)) size
+
 -- ---- a number at a place
 
 -- the highest byte, then the number of the bytes after it
@@ -147,6 +159,12 @@ pub number_at-drop : (w : ℕ) (xs : List ℕ) (n at : ℕ) → number_at w (dro
 unfolding number_at
 number_at-drop w xs n at = rw drop-drop
 
+-- the number of a part of so many bytes
+pub number_at_part : (w : ℕ) (s : List ℕ) (at : ℕ) → number_at w (take (at + w - at) (drop at s)) 0 ≡ number_at w s at
+unfolding number_at
+number_at_part w s at =
+    ap (λ (l : List ℕ). number (take w l)) (part_from s at w) ∙ ap number (take-take w w (drop at s) (le_refl w))
+
 -- ---- more bytes than a number needs
 
 pub be_pad : (k w n : ℕ) → n < 256 ^ w → be (k + w) n ≡ replicate k 0 ++ be w n
@@ -155,16 +173,6 @@ be_pad zero w n h = rw zero-add
 be_pad (suc k) w n h =
     let more : 256 ^ w ≤ 256 ^ (k + w) = pow-le-pow_right (lit< tt) (omega arith) in
     rw (suc-add, div-eq_of_lt (lt_of_lt_of_le h more), be_pad k w n h)
-
--- ---- the end of a list
-
--- a part that ends where the list does
-pub part_end : (l : List ℕ) (n : ℕ) → take (length l - n) (drop n l) ≡ drop n l
-part_end l n = take_all (length l - n) (drop n l) (rw length-drop (le_refl (length l - n)))
-
--- a part of so many elements, from its start to its end
-pub part_from : (l : List ℕ) (n k : ℕ) → take (n + k - n) (drop n l) ≡ take k (drop n l)
-part_from l n k = let size : n + k - n ≡ k = omega arith in ap (λ (m : ℕ). take m (drop n l)) size
 
 -- ---- bytes back from their number
 
@@ -201,6 +209,12 @@ pub sets_more : (l : List ℕ) (at : ℕ) (xs : List ℕ) (i : ℕ) → i < leng
 sets_more l at xs i h =
     rw (add-one, take-suc xs i 0 h, sets-append l at (take i xs) (get_or xs i 0 ∷ []), length-take-le i xs (omega arith))
 
+-- a part that was written over, as a run of stores
+pub sets_part : (l vs : List ℕ) (at : ℕ) → at + length vs ≤ length l → put_mid at (at + length vs - at) l vs ≡ sets l at vs
+sets_part l vs at h =
+    let size : at + length vs - at ≡ length vs = omega arith in
+    rw (size, sets-eq vs l at h, drop-drop, append_assoc)
+
 -- what stands before and in a run of stores
 pub take-sets : (l vs : List ℕ) (k : ℕ) → k + length vs ≤ length l → take (k + length vs) (sets l k vs) ≡ take k l ++ vs
 take-sets l vs k h =
@@ -233,22 +247,31 @@ sets_next w e vs k j hw hj h =
     let long : k + length vs ≤ length (w ++ drop k e) = rw (length-append, length-drop, hw) (omega arith) in
     rw (sets-eq vs (w ++ drop k e) k long, take_at w (drop k e) k hw, ← drop-drop, drop_at w (drop k e) k hw, drop-drop, hj)
 
--- ---- a number written from its last byte on
+-- ---- the lowest bytes of a number
 
--- the last byte, and those before it
-pub be_snoc : (w n : ℕ) → be (suc w) n ≡ be w (n / 256) ++ (n % 256 ∷ [])
+pub be_drop : (k w n : ℕ) → drop k (be (k + w) n) ≡ be w n
 unfolding be
-be_snoc zero n = rw div-one
-be_snoc (suc w) n =
-    let first : n / 256 ^ suc w % 256 ≡ n / 256 / 256 ^ w % 256 = rw (pow-suc, mul_comm (256 ^ w) 256, ← div-div-eq-div-mul) in
-    rw first (ap (λ (l : List ℕ). n / 256 / 256 ^ w % 256 ∷ l) (be_snoc w n))
+be_drop zero w n = rw zero-add
+be_drop (suc k) w n = rw suc-add (be_drop k w n)
 
-set_behind : (l vs : List ℕ) (at j x : ℕ) → at + length vs ≤ j → sets (set l j x) at vs ≡ set (sets l at vs) j x
-set_behind l [] at j x h = refl
-set_behind l (v ∷ vs) at j x h = rw (set_comm l j at x v (λ e. omega (arith, e))) (set_behind (set l at v) vs (suc at) j x (omega arith))
+-- the bytes of 16, 32 and 64 bits
+pub two_bytes : (n : ℕ) → to_be_bytes w16 n ≡ be 2 n
+unfolding be
+two_bytes n = simp div-one
 
--- the last byte stored, then the others, is all of them stored
-pub byte_step : (l : List ℕ) (at w n : ℕ) → sets (set l (at + w) (n % 256)) at (be w (n / 256)) ≡ sets l at (be (suc w) n)
-byte_step l at w n =
-    set_behind l (be w (n / 256)) at (at + w) (n % 256) (rw length-be (le_refl (at + w)))
-    ∙ rw (be_snoc w n, sets-append l at (be w (n / 256)) (n % 256 ∷ []), length-be)
+pub four_bytes : (n : ℕ) → to_be_bytes w32 n ≡ be 4 n
+unfolding be
+four_bytes n = simp div-one
+
+eight_bytes : (n : ℕ) → to_be_bytes w64 n ≡ be 8 n
+unfolding be
+eight_bytes n = simp div-one
+
+-- the last of eight bytes
+pub last_bytes : (w n : ℕ) → w ≤ 8 → take (8 - (8 - w)) (drop (8 - w) (to_be_bytes w64 n)) ≡ be w n
+last_bytes w n h =
+    let all : 8 - w + w ≡ 8 = omega arith in
+    let size : 8 - (8 - w) ≡ w = omega arith in
+    ap (λ (l : List ℕ). take (8 - (8 - w)) (drop (8 - w) l)) (eight_bytes n ∙ ap (λ (k : ℕ). be k n) (sym all))
+    ∙ ap (take (8 - (8 - w))) (be_drop (8 - w) w n)
+    ∙ take_all (8 - (8 - w)) (be w n) (rw (length-be, size) (le_refl w))

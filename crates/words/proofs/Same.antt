@@ -1,12 +1,13 @@
 -- The laws of `same`: it is true of equal lists and of no others, so that any test that decides equality has its value.
 -- Assumes nothing.
 use mathlib.Core.Path.{◌≡◌, refl, sym}
-use mathlib.Core.Bool.{Bool, true, false, cond}
+use mathlib.Core.Bool.{Bool, true, false, cond, ◌&&◌}
 use mathlib.Core.List.{List, [], ◌∷◌, ◌++◌}
 use Prim.Native.Nat.{ℕ}
 use native.Mathlib.Omega.{arith}
 use borrow.Author.Tests.{eqb-true, eq-eqb}
 use lib.Dec.{eqb}
+use lib.Pointwise.{pointwise}
 use Rattle.words.specs.BigEndian.{same}
 
 -- ---- truth values
@@ -38,6 +39,18 @@ pub true_same : (xs : List ℕ) → same xs xs ≡ true
 unfolding same
 true_same [] = refl
 true_same (x ∷ xs) = rw (eq-eqb x x refl) (true_same xs)
+
+-- what the library's `==` compares, pair by pair
+pub pointwise_same : (xs ys : List ℕ) → pointwise eqb xs ys ≡ same xs ys
+unfolding same
+pointwise_same [] [] = refl
+pointwise_same [] (y ∷ ys) = refl
+pointwise_same (x ∷ xs) [] = refl
+pointwise_same (x ∷ xs) (y ∷ ys) = go (eqb x y) (pointwise_same xs ys)
+  where
+    go : (b : Bool) → pointwise eqb xs ys ≡ same xs ys → (b && pointwise eqb xs ys) ≡ cond b (same xs ys) false
+    go true e = e
+    go false e = refl
 
 -- a beginning that both have
 pub same_after : (xs ys zs : List ℕ) → same (xs ++ ys) (xs ++ zs) ≡ same ys zs

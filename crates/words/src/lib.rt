@@ -22,7 +22,7 @@ pub fn u16_at(s: &[u8], at: usize) -> u16
     requires { at + 2 ≤ length s.now }
     ensures { (result ≡ number_at 2 s.now at) × (result < 65536) }
 {
-    (wide(s[at]) * 256 + wide(s[at + 1])) as u16
+    u16::from_be_bytes([s[at], s[at + 1]])
 }
 
 // The 4-byte number at a place.
@@ -30,7 +30,7 @@ pub fn u32_at(s: &[u8], at: usize) -> u32
     requires { at + 4 ≤ length s.now }
     ensures { (result ≡ number_at 4 s.now at) × (result < 4294967296) }
 {
-    wide(s[at]) * 16777216 + wide(s[at + 1]) * 65536 + wide(s[at + 2]) * 256 + wide(s[at + 3])
+    u32::from_be_bytes([s[at], s[at + 1], s[at + 2], s[at + 3]])
 }
 
 // The number of `width` bytes at a place. A byte a turn: a term is 4 bytes or 8, and no proof asks which.
@@ -39,10 +39,8 @@ pub fn number_at(s: &[u8], at: usize, width: usize) -> u64
     ensures { (result ≡ number_at width s.now at) × (result < 256 ^ width) }
 {
     let mut value: u64 = 0;
-    let mut i = 0;
-    while i < width {
-        value = value * 256 + wide(s[at + i]) as u64;
-        i += 1;
+    for byte in &s[at..at + width] {
+        value = value * 256 + u64::from(*byte);
     }
     value
 }
@@ -60,8 +58,7 @@ pub fn put_u16(out: &mut [u8], at: usize, x: u16)
     requires { at + 2 ≤ length out.old }
     ensures { out.new ≡ sets out.old at (be 2 x) }
 {
-    out[at] = (x / 256 % 256) as u8;
-    out[at + 1] = (x % 256) as u8;
+    out[at..at + 2].copy_from_slice(&x.to_be_bytes());
 }
 
 // Writes a number to the 4 bytes at a place.
@@ -69,24 +66,15 @@ pub fn put_u32(out: &mut [u8], at: usize, x: u32)
     requires { at + 4 ≤ length out.old }
     ensures { out.new ≡ sets out.old at (be 4 x) }
 {
-    out[at] = (x / 16777216 % 256) as u8;
-    out[at + 1] = (x / 65536 % 256) as u8;
-    out[at + 2] = (x / 256 % 256) as u8;
-    out[at + 3] = (x % 256) as u8;
+    out[at..at + 4].copy_from_slice(&x.to_be_bytes());
 }
 
-// Writes a number to the `width` bytes at a place, the last byte first.
+// Writes a number to the `width` bytes at a place.
 pub fn put_number(out: &mut [u8], at: usize, width: usize, x: u64)
     requires { (at + width ≤ length out.old) × (width ≤ width_most) }
     ensures { out.new ≡ sets out.old at (be width x) }
 {
-    let mut k = width;
-    let mut rest = x;
-    while 0 < k {
-        k -= 1;
-        out[at + k] = (rest % 256) as u8;
-        rest /= 256;
-    }
+    put_bytes(out, at, &x.to_be_bytes()[WIDTH_MOST - width..]);
 }
 
 // Writes some bytes to a place.
@@ -94,9 +82,5 @@ pub fn put_bytes(out: &mut [u8], at: usize, bytes: &[u8])
     requires { at + length bytes.now ≤ length out.old }
     ensures { out.new ≡ sets out.old at bytes.now }
 {
-    let mut i = 0;
-    while i < bytes.len() {
-        out[at + i] = bytes[i];
-        i += 1;
-    }
+    out[at..at + bytes.len()].copy_from_slice(bytes);
 }

@@ -1,6 +1,8 @@
 -- The leaf's value, then every level above it; 2^h is not shifted out of a word.
-use mathlib.Core.Path.{◌∙◌}
+use mathlib.Core.Path.{◌≡◌, ◌∙◌}
+use Prim.Native.Nat.{◌/◌}
 use native.Mathlib.Omega.{arith}
+use lib.ListN.{length}
 use lib.Pow.{pow_mono}
 use Rattle.lm_tree.specs.Tree.{root, D-LEAF}
 use Rattle.lm_format.proofs.Forms.{shifted_one}
@@ -13,5 +15,6 @@ overflow_add-node c =
 pub returns : goal.returns
 unfolding root D-LEAF
 returns c =
+    let levels : length c.args.path.now / 32 ≡ c.args.h = omega arith in
     c.climb.ensures
-    ∙ rw (c.tagged-value.ensures, c.bytes-key.ensures, shifted_one c.args.h c.requires.0)
+    ∙ rw (c.tagged-value.ensures, c.bytes-key.ensures, shifted_one c.args.h c.requires.0, levels)

@@ -13,19 +13,19 @@ value_at-p-requires c = omega (arith, c.requires.4)
 
 pub loop-k-init : goal.loop-k-init
 unfolding Checkpoints
-loop-k-init c = (omega arith, c.value_at-p.ensures ∙ c.requires.5 _ (omega arith))
+loop-k-init c = c.value_at-p.ensures ∙ c.requires.5 _ (omega arith)
 
 pub step-p-requires : goal.step-p-requires
 step-p-requires c =
     let a = c.args in
     let l = c.loop-k in
-    (c.requires.0, omega arith, rw add-one (fewer_inside a.width (suc l.k) a.records (omega arith) c.requires.2), l.invariant.1)
+    (c.requires.0, omega arith, rw add-one (fewer_inside a.width (suc l.k) a.records (omega arith) c.requires.2), l.invariant)
 
 pub loop-k-preserved : goal.loop-k-preserved
-loop-k-preserved c = (omega arith, c.step-p.ensures)
+loop-k-preserved c = c.step-p.ensures
 
 pub returns : goal.returns
 returns c =
     let l = c.loop-k in
     let all : l.k ≡ c.args.i = omega arith in
-    rw all at l.invariant.1
+    rw all at l.invariant

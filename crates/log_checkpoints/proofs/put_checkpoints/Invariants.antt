@@ -1,7 +1,7 @@
 -- One record a turn: p is the pointer of record k, and the table has the checkpoints up to it.
 use mathlib.Core.Path.{◌≡◌}
 use mathlib.Core.List.{[]}
-use Prim.Native.Nat.{◌-◌, ◌≤◌}
+use Prim.Native.Nat.{◌≤◌}
 use lib.ListN.{length}
 use Rattle.sha256.specs.Sha256.{bytes_of}
 use Rattle.log_chain.specs.Log.{with_terms, pointer}
@@ -11,8 +11,5 @@ use Rattle.log_checkpoints.proofs.put_checkpoints.Given as goal
 
 abbrev pub invariant-loop-k : goal.invariant-loop-k
 invariant-loop-k l =
-    (l.k ≤ l.records) × (length l.table ≡ length l.initial.table) × (table_size l.records ≤ length l.table)
+    (table_size l.records ≤ length l.table)
     × (bytes_of l.p ≡ pointer (with_terms l.width []) (records_of l.width l.k l.s)) × Checkpoints l.width l.k l.s l.table
-
-abbrev pub decreases-loop-k : goal.decreases-loop-k
-decreases-loop-k l = l.records - l.k

@@ -13,7 +13,7 @@ use Rattle.words.proofs.Laws.{bytes_each}
 use Rattle.log_chain.specs.Records.{record_size}
 use Rattle.log_chain.specs.Difference.{same_record}
 use Rattle.log_terms.proofs.Records.{record_at, record_next, record_inside}
-use Rattle.log_difference.proofs.Steps.{from_first, from-end-first, from-end-second, from_next, from-here, record_test}
+use Rattle.log_difference.proofs.Steps.{from_first, from-end, from_next, from-here, record_test}
 use Rattle.log_difference.proofs.difference.Goals as goal
 
 -- where the next record ends, by the size that the code has
@@ -33,58 +33,48 @@ record_size-size-requires c = c.requires.0
 pub loop-i-init : goal.loop-i-init
 loop-i-init c =
     let a = c.args in
-    (omega arith, from_first a.width a.first a.second a.a.now a.b.now)
-
-pub returns-then-second-i : goal.returns-then-second-i
-returns-then-second-i c =
-    let a = c.args in
-    let l = c.loop-i in
-    sym (from-end-second a.width a.first a.second a.a.now a.b.now l.i c.if-second-i.true) ∙ l.invariant.1
+    from_first a.width a.first a.second a.a.now a.b.now
 
 pub overflow_mul-size : goal.overflow_mul-size
 overflow_mul-size c =
     let a = c.args in
-    omega (arith, ends a.width c.loop-i.i a.first _ _ c.record_size-size.ensures.0 c.loop-i-test.true c.requires.1)
+    omega (arith, ends a.width c.loop-i.i a.first _ _ c.record_size-size.ensures.0 (omega arith) c.requires.1)
 
 pub same_part-requires : goal.same_part-requires
 same_part-requires c =
     let a = c.args in
     let i = c.loop-i.i in
     let size = c.record_size-size.ensures.0 in
-    (ends a.width i a.first _ _ size c.loop-i-test.true c.requires.1, ends a.width i a.second _ _ size (omega arith) c.requires.2)
+    (ends a.width i a.first _ _ size (omega arith) c.requires.1, ends a.width i a.second _ _ size (omega arith) c.requires.2)
 
 pub returns-then-not-same_part : goal.returns-then-not-same_part
 returns-then-not-same_part c =
     let a = c.args in
     let l = c.loop-i in
-    let inside = c.loop-i-test.true in
     let test = compared a.width l.i a.first a.second c.record_size-size.result a.a.now a.b.now
     (bytes_each a.a.now (λ j. (c.type_inv.a j).fits))
-    (bytes_each a.b.now (λ j. (c.type_inv.b j).fits)) c.record_size-size.ensures.0 inside
+    (bytes_each a.b.now (λ j. (c.type_inv.b j).fits)) c.record_size-size.ensures.0 (omega arith)
     (omega arith) c.requires.1 c.requires.2 in
     rw add-one
-    (sym (from-here a.width a.first a.second a.a.now a.b.now l.i inside (omega arith)
+    (sym (from-here a.width a.first a.second a.a.now a.b.now l.i (omega arith) (omega arith)
     (test ∙ sym c.same_part.ensures ∙ c.if-not-same_part.true))
-    ∙ l.invariant.1)
+    ∙ l.invariant)
 
 pub loop-i-preserved : goal.loop-i-preserved
 loop-i-preserved c =
     let a = c.args in
     let l = c.loop-i in
-    let inside = c.loop-i-test.true in
     let test = compared a.width l.i a.first a.second c.record_size-size.result a.a.now a.b.now
     (bytes_each a.a.now (λ j. (c.type_inv.a j).fits))
-    (bytes_each a.b.now (λ j. (c.type_inv.b j).fits)) c.record_size-size.ensures.0 inside
+    (bytes_each a.b.now (λ j. (c.type_inv.b j).fits)) c.record_size-size.ensures.0 (omega arith)
     (omega arith) c.requires.1 c.requires.2 in
-    rw add-one (
-      omega arith,
-      sym (from_next a.width a.first a.second a.a.now a.b.now l.i inside (omega arith)
-          (test ∙ sym c.same_part.ensures ∙ c.if-not-same_part.false))
-          ∙ l.invariant.1,
-    )
+    rw add-one
+    (sym (from_next a.width a.first a.second a.a.now a.b.now l.i (omega arith) (omega arith)
+    (test ∙ sym c.same_part.ensures ∙ c.if-not-same_part.false))
+    ∙ l.invariant)
 
 pub returns : goal.returns
 returns c =
     let a = c.args in
     let l = c.loop-i in
-    sym (from-end-first a.width a.first a.second a.a.now a.b.now l.i c.loop-i-test.false) ∙ l.invariant.1
+    sym (from-end a.width a.first a.second a.a.now a.b.now l.i (omega arith)) ∙ l.invariant

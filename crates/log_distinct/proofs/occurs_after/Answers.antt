@@ -8,7 +8,7 @@ use Rattle.log_distinct.proofs.Counting.{occurs-here, occurs-later, occurs-nowhe
 use Rattle.log_distinct.proofs.occurs_after.Goals as goal
 
 pub loop-k-init : goal.loop-k-init
-loop-k-init c = (c.requires.1, refl)
+loop-k-init c = refl
 
 pub last_term-requires : goal.last_term-requires
 last_term-requires c =
@@ -20,7 +20,7 @@ returns-then-last_term-term c =
     let l = c.loop-k in
     let a = c.args in
     let term = c.last_term.ensures in
-    sym (occurs-here a.width a.records l.k a.s.now term (omega arith) a.term c.if-last_term-term.true) ∙ l.invariant.1
+    sym (occurs-here a.width a.records l.k a.s.now term (omega arith) a.term c.if-last_term-term.true) ∙ l.invariant
 
 pub loop-k-preserved : goal.loop-k-preserved
 loop-k-preserved c =
@@ -28,10 +28,10 @@ loop-k-preserved c =
     let a = c.args in
     let term = c.last_term.ensures in
     let later = occurs-later a.width a.records l.k a.s.now term (omega arith) a.term c.if-last_term-term.false in
-    (omega arith, sym later ∙ l.invariant.1)
+    sym later ∙ l.invariant
 
 pub returns : goal.returns
 returns c =
     let l = c.loop-k in
     let a = c.args in
-    sym (occurs-nowhere a.width a.records l.k a.s.now a.term (omega arith)) ∙ l.invariant.1
+    sym (occurs-nowhere a.width a.records l.k a.s.now a.term (omega arith)) ∙ l.invariant

@@ -1,13 +1,9 @@
 -- One record a turn: the term occurs among the records that are left where it occurs among those after record i.
 use mathlib.Core.Path.{◌≡◌}
-use Prim.Native.Nat.{◌-◌, ◌≤◌}
 use Rattle.log_terms.specs.Later.{records_after}
 use Rattle.log_distinct.specs.Distinct.{occurs}
 use Rattle.log_distinct.proofs.occurs_after.Given as goal
 
 abbrev pub invariant-loop-k : goal.invariant-loop-k
 invariant-loop-k l =
-    (l.k ≤ l.records) × (occurs l.term (records_after l.width l.records l.k l.s) ≡ occurs l.term (records_after l.width l.records l.i l.s))
-
-abbrev pub decreases-loop-k : goal.decreases-loop-k
-decreases-loop-k l = l.records - l.k
+    occurs l.term (records_after l.width l.records l.k l.s) ≡ occurs l.term (records_after l.width l.records l.i l.s)

@@ -10,11 +10,12 @@ use Rattle.log_terms.proofs.Records.{after-all}
 use Rattle.log_distinct.specs.Distinct.{distinct}
 use Rattle.log_distinct.proofs.Counting.{distinct-again, distinct-new, distinct_none}
 use Rattle.log_distinct.proofs.terms_at_most.Goals as goal
+use Rattle.log_distinct.proofs.terms_at_most.Goals.{then-not-occurs_after+else-most-count, else-not-occurs_after}
 
 pub loop-i-init : goal.loop-i-init
 loop-i-init c =
     let a = c.args in
-    (omega arith, omega arith, omega arith, omega (arith, ap distinct (after-all a.width a.records a.s.now)))
+    (omega arith, omega arith, omega (arith, ap distinct (after-all a.width a.records a.s.now)))
 
 pub last_term-term-requires : goal.last_term-term-requires
 last_term-term-requires c =
@@ -30,27 +31,26 @@ returns-then-most-count c =
     let a = c.args in
     let new = distinct-new a.width a.records l.i a.s.now c.last_term-term.ensures c.loop-i-test.true
     c.occurs_after.ensures (ap not c.if-not-occurs_after.true) in
-    sym (lt-leb _ a.most (omega (arith, new, l.invariant.3, c.if-most-count.true)))
-
-pub loop-i-preserved-else-most-count : goal.loop-i-preserved-else-most-count
-loop-i-preserved-else-most-count c =
-    let l = c.loop-i in
-    let a = c.args in
-    let new = distinct-new a.width a.records l.i a.s.now c.last_term-term.ensures c.loop-i-test.true
-    c.occurs_after.ensures (ap not c.if-not-occurs_after.true) in
-    (omega arith, omega arith, omega (arith, c.if-most-count.false), omega (arith, new, l.invariant.3))
+    sym (lt-leb _ a.most (omega (arith, new, l.invariant.2, c.if-most-count.true)))
 
 pub loop-i-preserved : goal.loop-i-preserved
 loop-i-preserved c =
     let l = c.loop-i in
     let a = c.args in
-    let again = distinct-again a.width a.records l.i a.s.now c.last_term-term.ensures c.loop-i-test.true
-    c.occurs_after.ensures (ap not c.if-not-occurs_after.false) in
-    (omega arith, omega arith, l.invariant.2, omega (arith, again, l.invariant.3))
+    elim c.if-not-occurs_after.branch [
+      | then-not-occurs_after+else-most-count w ↦
+          let new = distinct-new a.width a.records l.i a.s.now c.last_term-term.ensures c.loop-i-test.true
+          c.occurs_after.ensures (ap not w.if-not-occurs_after.true) in
+          (omega arith, omega arith, omega (arith, new, l.invariant.2))
+      | else-not-occurs_after w ↦
+          let again = distinct-again a.width a.records l.i a.s.now c.last_term-term.ensures c.loop-i-test.true
+          c.occurs_after.ensures (ap not w.if-not-occurs_after.false) in
+          (omega arith, omega arith, omega (arith, again, l.invariant.2))
+    ]
 
 pub returns : goal.returns
 returns c =
     let l = c.loop-i in
     let a = c.args in
     let none = distinct_none a.width a.records l.i a.s.now c.loop-i-test.false in
-    sym (le-leb _ a.most (omega (arith, none, l.invariant.2, l.invariant.3)))
+    sym (le-leb _ a.most (omega (arith, none, l.invariant.1, l.invariant.2)))

@@ -1,5 +1,5 @@
 -- One record a turn: the term has not ended before record `end`, whose term is the first record's.
-use mathlib.Core.Path.{sym, ◌∙◌}
+use mathlib.Core.Path.{◌≡◌, sym, ◌∙◌}
 use native.Mathlib.Numerals.{add-one}
 use native.Mathlib.Omega.{arith}
 use Rattle.log_terms.proofs.Records.{records-last, record_inside}
@@ -17,7 +17,7 @@ loop-end-init c =
     let a = c.args in
     let s = a.s.now in
     let first = c.term_after-term.ensures ∙ record_term a.width s a.i ∙ sym (records-last a.width a.i s) in
-    rw add-one (omega arith, omega arith, first, starts a.width a.records a.i s c.requires.1)
+    rw add-one (first, starts a.width a.records a.i s c.requires.1)
 
 pub term_after-requires : goal.term_after-requires
 term_after-requires c =
@@ -30,10 +30,10 @@ returns-then-term_after-term c =
     let a = c.args in
     let s = a.s.now in
     let here = c.term_after.ensures ∙ record_term a.width s l.end in (
-      l.invariant.0,
-      l.invariant.1,
-      ends a.width a.records a.i s l.end l.invariant.3 c.loop-end-test.true
-          (λ e. c.if-term_after-term.true (here ∙ e ∙ sym l.invariant.2)),
+      omega arith,
+      omega arith,
+      ends a.width a.records a.i s l.end l.invariant.1 c.loop-end-test.true
+          (λ e. c.if-term_after-term.true (here ∙ e ∙ sym l.invariant.0)),
     )
 
 pub loop-end-preserved : goal.loop-end-preserved
@@ -43,14 +43,13 @@ loop-end-preserved c =
     let s = a.s.now in
     let here = sym (c.term_after.ensures ∙ record_term a.width s l.end) ∙ c.if-term_after-term.false in
     rw add-one (
-      omega arith,
-      omega arith,
       sym here ∙ sym (records-last a.width l.end s),
-      goes a.width a.records a.i s l.end l.invariant.3 c.loop-end-test.true (here ∙ l.invariant.2),
+      goes a.width a.records a.i s l.end l.invariant.1 c.loop-end-test.true (here ∙ l.invariant.0),
     )
 
 pub returns : goal.returns
 returns c =
     let l = c.loop-end in
     let a = c.args in
-    (l.invariant.0, l.invariant.1, ends-log a.width a.records a.i a.s.now l.end l.invariant.3 c.loop-end-test.false)
+    let all : l.end ≡ a.records = omega arith in
+    (omega arith, omega arith, rw all at (ends-log a.width a.records a.i a.s.now l.end l.invariant.1 c.loop-end-test.false))

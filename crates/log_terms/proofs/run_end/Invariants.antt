@@ -1,6 +1,5 @@
 -- One record a turn: the term has not ended before record `end`, whose term is the first record's.
 use mathlib.Core.Path.{◌≡◌}
-use Prim.Native.Nat.{◌-◌, ◌≤◌, ◌<◌}
 use Rattle.log_chain.specs.Log.{last_term}
 use Rattle.log_chain.specs.Runs.{runs_from}
 use Rattle.log_chain.specs.Records.{records_of}
@@ -9,8 +8,5 @@ use Rattle.log_terms.proofs.run_end.Given as goal
 
 abbrev pub invariant-loop-end : goal.invariant-loop-end
 invariant-loop-end l =
-    (l.i < l.end) × (l.end ≤ l.records) × (l.term ≡ last_term (records_of l.width l.end l.s))
+    (l.term ≡ last_term (records_of l.width l.end l.s))
     × (runs_left l.width l.records l.i l.s ≡ runs_from (records_of l.width l.i l.s) (records_of l.width l.end l.s) (records_after l.width l.records l.end l.s))
-
-abbrev pub decreases-loop-end : goal.decreases-loop-end
-decreases-loop-end l = l.records - l.end

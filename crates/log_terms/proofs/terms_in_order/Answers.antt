@@ -13,7 +13,7 @@ use Rattle.log_terms.proofs.terms_in_order.Goals as goal
 pub loop-i-init : goal.loop-i-init
 loop-i-init c =
     let a = c.args in
-    (omega arith, ap (rising 1) (after-all a.width a.records a.s.now))
+    ap (rising 1) (after-all a.width a.records a.s.now)
 
 pub term_after-term-requires : goal.term_after-term-requires
 term_after-term-requires c =
@@ -25,7 +25,7 @@ returns-then-term-low c =
     let l = c.loop-i in
     let a = c.args in
     let term = c.term_after-term.ensures ∙ record_term a.width a.s.now l.i in
-    falls a.width a.records l.i l.low a.s.now l.invariant.1 c.loop-i-test.true (rw (← term) c.if-term-low.true)
+    falls a.width a.records l.i l.low a.s.now l.invariant c.loop-i-test.true (rw (← term) c.if-term-low.true)
 
 pub loop-i-preserved : goal.loop-i-preserved
 loop-i-preserved c =
@@ -33,11 +33,11 @@ loop-i-preserved c =
     let a = c.args in
     let s = a.s.now in
     let term = c.term_after-term.ensures ∙ record_term a.width s l.i in
-    let next = climbs a.width a.records l.i l.low s l.invariant.1 c.loop-i-test.true (rw (← term) c.if-term-low.false) in
-    (omega arith, rw add-one (ap (λ (t : ℕ). rising t (records_after a.width a.records (suc l.i) s)) term ∙ next))
+    let next = climbs a.width a.records l.i l.low s l.invariant c.loop-i-test.true (rw (← term) c.if-term-low.false) in
+    rw add-one (ap (λ (t : ℕ). rising t (records_after a.width a.records (suc l.i) s)) term ∙ next)
 
 pub returns : goal.returns
 returns c =
     let l = c.loop-i in
     let a = c.args in
-    risen a.width a.records l.i l.low a.s.now l.invariant.1 c.loop-i-test.false
+    risen a.width a.records l.i l.low a.s.now l.invariant c.loop-i-test.false

@@ -13,7 +13,7 @@ use Rattle.sha256.proofs.block_at.Goals as goal
 
 pub loop-i-init : goal.loop-i-init
 unfolding parse
-loop-i-init c = (search rules, refl, refl)
+loop-i-init c = (search rules, refl)
 
 pub loop-i-preserved : goal.loop-i-preserved
 loop-i-preserved c =
@@ -21,13 +21,12 @@ loop-i-preserved c =
     let a = c.args in
     let bytes = a.bytes.now in
     let word = c.u32_at.ensures.0 ∙ sym (number_at-drop 4 bytes a.at (4 * l.i)) in (
-      omega arith,
-      simp length-set l.invariant.1,
-      parse_step l.i (drop a.at bytes) l.m c.u32_at.result (omega arith) word l.invariant.2,
+      simp length-set l.invariant.0,
+      parse_step l.i (drop a.at bytes) l.m c.u32_at.result (omega arith) word l.invariant.1,
     )
 
 pub returns : goal.returns
 returns c =
     let l = c.loop-i in
     let end : l.i ≡ 16 = omega arith in
-    sym (take_all 16 l.m (omega arith)) ∙ (rw end at l.invariant.2)
+    sym (take_all 16 l.m (omega arith)) ∙ (rw end at l.invariant.1)

@@ -13,10 +13,10 @@ use Rattle.sha256.proofs.bytes_of.Goals as goal
 
 pub loop-i-init : goal.loop-i-init
 unfolding flat_map
-loop-i-init c = (search rules, refl, refl)
+loop-i-init c = (search rules, refl)
 
 pub slice_bounds-put_u32-end : goal.slice_bounds-put_u32-end
-slice_bounds-put_u32-end c = sym c.loop-i.invariant.1
+slice_bounds-put_u32-end c = sym c.loop-i.invariant.0
 
 pub loop-i-preserved : goal.loop-i-preserved
 loop-i-preserved c =
@@ -24,9 +24,8 @@ loop-i-preserved c =
     let w = c.args.w in
     let inside : l.i < length w = search rules in
     let put = c.put_u32.ensures in (
-      omega arith,
-      rw put (length-sets l.bytes (4 * l.i) (be 4 (get_or w l.i 0)) ∙ l.invariant.1),
-      rw put (put_step l.bytes w l.i inside (omega arith) l.invariant.2),
+      rw put (length-sets l.bytes (4 * l.i) (be 4 (get_or w l.i 0)) ∙ l.invariant.0),
+      rw put (put_step l.bytes w l.i inside (omega arith) l.invariant.1),
     )
 
 pub returns : goal.returns
@@ -35,5 +34,5 @@ returns c =
     let w = c.args.w in
     let end : l.i ≡ 8 = omega arith in
     let long : length w ≡ 8 = search rules in
-    let all : take 32 l.bytes ≡ flat_map (be 4) (take 8 w) = rw end at l.invariant.2 in
+    let all : take 32 l.bytes ≡ flat_map (be 4) (take 8 w) = rw end at l.invariant.1 in
     sym (take_all 32 l.bytes (omega arith)) ∙ all ∙ ap (flat_map (be 4)) (take_all 8 w (omega arith))

@@ -1,6 +1,6 @@
 -- One word a turn: four bytes more are the next word's.
 -- A loop that fills a buffer, with the needs of any such loop; the step that is its own is `put_step`.
-use Prim.Native.Nat.{◌≤◌, ◌-◌, ◌*◌}
+use Prim.Native.Nat.{◌*◌}
 use mathlib.Core.Path.{◌≡◌}
 use mathlib.Core.List.{flat_map}
 use lib.ListN.{length, take}
@@ -9,7 +9,4 @@ use Rattle.sha256.proofs.bytes_of.Given as goal
 
 abbrev pub invariant-loop-i : goal.invariant-loop-i
 invariant-loop-i l =
-    (l.i ≤ 8) × (length l.bytes ≡ 32) × (take (4 * l.i) l.bytes ≡ flat_map (be 4) (take l.i l.w))
-
-abbrev pub decreases-loop-i : goal.decreases-loop-i
-decreases-loop-i l = 8 - l.i
+    (length l.bytes ≡ 32) × (take (4 * l.i) l.bytes ≡ flat_map (be 4) (take l.i l.w))

@@ -14,10 +14,10 @@ returns-in_default c = no_index _ _ _ (sym c.commit_part.ensures ∙ c.in_defaul
 
 pub returns-then-index-eq0 : goal.returns-then-index-eq0
 returns-then-index-eq0 c =
-    zero-index _ _ _ (sym c.commit_part.ensures ∙ c.in-Found.is) (omega arith)
+    zero-index _ _ _ (sym c.commit_part.ensures ∙ c.in-Some.is) (omega arith)
 
 pub returns : goal.returns
 returns c =
-    let told = sym c.commit_part.ensures ∙ c.in-Found.is in
+    let told = sym c.commit_part.ensures ∙ c.in-Some.is in
     let p = c.requires in
     ap (leb _) (known-records _ _ p) ∙ index-within _ _ _ told (omega arith)

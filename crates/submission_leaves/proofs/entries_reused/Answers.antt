@@ -1,6 +1,5 @@
 -- Two leaves that differ end it; the messages decide.
 use mathlib.Core.Path.{sym, ◌∙◌}
-use Rattle.words.proofs.Same.{same_test}
 use Rattle.submission_leaves.proofs.Entries.{other-leaf, by-messages}
 use Rattle.submission_leaves.proofs.entries_reused.Goals as goal
 
@@ -14,4 +13,4 @@ pub returns : goal.returns
 returns c =
     let one = c.u32_at.ensures.0 in
     let other = c.u32_at-2.ensures.0 in
-    by-messages _ _ _ _ (sym one ∙ c.if-u32_at.false ∙ other) (same_test _ _ _ c.same.ensures)
+    c.ne.ensures ∙ by-messages _ _ _ (sym one ∙ c.if-u32_at.false ∙ other)

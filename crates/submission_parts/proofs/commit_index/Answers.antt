@@ -13,5 +13,5 @@ returns-in_default c = rw (absent-says _ _ _ (sym c.commit_part.ensures ∙ c.in
 pub returns : goal.returns
 unfolding commit_index commit_numbers_at commit_at
 returns c =
-    let told = found-says _ _ _ (sym c.commit_part.ensures ∙ c.in-Found.is) in
+    let told = found-says _ _ _ (sym c.commit_part.ensures ∙ c.in-Some.is) in
     rw (told.2, told.0)

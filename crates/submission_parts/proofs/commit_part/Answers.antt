@@ -19,13 +19,13 @@ overflow_sub-at c =
     let stands = standing a.width a.size a.s.now c.requires.1 in
     omega arith
 
-pub returns-in_default : goal.returns-in_default
-returns-in_default c =
+pub returns-in_err-numbers : goal.returns-in_err-numbers
+returns-in_err-numbers c =
     let a = c.args in
     let stands = standing a.width a.size a.s.now c.requires.1 in
     let at = c.trailer_at-end.result - c.distance-back.result in
     let place : at ≡ commit_from a.width a.size a.s.now = omega arith in
-    let beyond = no-commit-passes a.size a.s.now at c.trailer_at-end.result (sym c.read_commit.ensures.0 ∙ c.in_default.is) in
+    let beyond = no-commit-passes a.size a.s.now at c.trailer_at-end.result (sym c.read_commit.ensures.0 ∙ c.in_err-numbers.was) in
     let inside = commit-inside a.width a.size a.s.now c.requires.1 (λ e. c.if-back-eq0.false (omega arith)) in
     absurd (omega (arith, rw place at beyond))
 
@@ -35,5 +35,5 @@ returns c =
     let stands = standing a.width a.size a.s.now c.requires.1 in
     let at = c.trailer_at-end.result - c.distance-back.result in
     let place : at ≡ commit_from a.width a.size a.s.now = omega arith in
-    let says = commit-says a.size a.s.now at c.trailer_at-end.result (sym c.read_commit.ensures.0 ∙ c.in-Read.is) in
+    let says = commit-says a.size a.s.now at c.trailer_at-end.result (sym c.read_commit.ensures.0 ∙ c.in_ok-numbers.was) in
     rw (says.0, place) (found a.width a.size a.s.now (λ e. c.if-back-eq0.false (omega arith)))

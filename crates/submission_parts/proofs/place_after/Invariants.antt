@@ -1,12 +1,9 @@
 -- One certificate a turn: those that are left end where all of them do.
 use mathlib.Core.Path.{◌≡◌}
-use Prim.Native.Nat.{◌≤◌}
+use Prim.Native.Nat.{◌-◌, ◌≤◌}
 use Rattle.submission.specs.Reading.{certificates_end}
 use Rattle.submission_parts.proofs.place_after.Given as goal
 
-abbrev pub invariant-loop-left : goal.invariant-loop-left
-invariant-loop-left l =
-    (l.at ≤ l.end) × (certificates_end l.width l.size l.s l.left l.at ≡ certificates_end l.width l.size l.s l.count l.from)
-
-abbrev pub decreases-loop-left : goal.decreases-loop-left
-decreases-loop-left l = l.left
+abbrev pub invariant-loop : goal.invariant-loop
+invariant-loop l =
+    (l.at ≤ l.end) × (certificates_end l.width l.size l.s (l.count - l.counter) l.at ≡ certificates_end l.width l.size l.s l.count l.from)

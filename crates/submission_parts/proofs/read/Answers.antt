@@ -17,8 +17,8 @@ returns-then-end-next c =
     c.signatures_size.ensures.0 in
     numbered a.width a.size a.s.now a.at a.end (unread a.width a.size a.s.now a.at a.end (omega (arith, end)))
 
-pub numbers_at-numbers-requires : goal.numbers_at-numbers-requires
-numbers_at-numbers-requires c =
+pub numbers_at-requires : goal.numbers_at-requires
+numbers_at-requires c =
     (omega (arith, c.ballot_size.ensures.0), c.requires.2, c.requires.3)
 
 pub returns : goal.returns
@@ -27,4 +27,4 @@ returns c =
     let end = ends_at a.width a.size a.at _ _ _ a.s.now c.ballot_size.ensures.0 c.u16_at-signers.ensures.0
     c.signatures_size.ensures.0 in
     numbered a.width a.size a.s.now a.at a.end
-    (rw (c.numbers_at-numbers.ensures, end) (read a.width a.size a.s.now a.at a.end (omega (arith, end))))
+    (rw (c.numbers_at.ensures, end) (read a.width a.size a.s.now a.at a.end (omega (arith, end))))

@@ -11,4 +11,4 @@ returns-in_default c =
 pub returns : goal.returns
 returns c =
     let a = c.args in
-    c.mask_quorate.ensures ∙ commit-signers a.width a.size a.s.now a.n (sym c.commit_part.ensures ∙ c.in-Found.is)
+    c.mask_quorate.ensures ∙ commit-signers a.width a.size a.s.now a.n (sym c.commit_part.ensures ∙ c.in-Some.is)

@@ -33,7 +33,7 @@ pub receipts_good-requires : goal.receipts_good-requires
 receipts_good-requires c =
     let a = c.args in
     let checked = c.requires.0 in
-    let told = found-says _ _ _ (sym c.commit_part.ensures ∙ c.in-Found.is) in
+    let told = found-says _ _ _ (sym c.commit_part.ensures ∙ c.in-Some.is) in
     let there = commit-records _ _ _ checked.counted.laid _ told.2 checked.commit in
     (checked, told.1, told.2, c.requires.1.committed ∙ ap (pointer (with_terms a.shape.width [])) there)
 
@@ -41,7 +41,7 @@ pub returns : goal.returns
 unfolding view
 returns c =
     let a = c.args in
-    let told = found-says _ _ _ (sym c.commit_part.ensures ∙ c.in-Found.is) in
+    let told = found-says _ _ _ (sym c.commit_part.ensures ∙ c.in-Some.is) in
     with-receipts _ a.shape.size (view a.shape.width a.shape.size a.s.now) told.2
     (sym c.stamps_good.ensures ∙ c.if-not-stamps_good.false)
     (rw (known-records _ _ c.requires.0.counted.laid.known) at c.receipts_good.ensures)

@@ -44,7 +44,7 @@ pub add_receipt-requires : goal.add_receipt-requires
 add_receipt-requires c =
     let a = c.args in
     let p = c.requires in
-    let told = found-says _ _ _ (sym c.commit_part.ensures ∙ c.in-Found.is) in
+    let told = found-says _ _ _ (sym c.commit_part.ensures ∙ c.in-Some.is) in
     let there = commit-records _ _ _ p.0.counted.laid _ told.2 p.0.commit in (
       p.0,
       p.4,
@@ -63,7 +63,7 @@ returns c =
     let p = c.requires in
     let known = p.0.counted.laid.known in
     let put = c.add_receipt in
-    let told = found-says _ _ _ (sym c.commit_part.ensures ∙ c.in-Found.is) in record {
+    let told = found-says _ _ _ (sym c.commit_part.ensures ∙ c.in-Some.is) in record {
       few = omega (arith, c.add_stamps-stamped.ensures.few, c.add_votes-voted.ensures.few, put.ensures.few);
       uses = with-receipt _ a.shape.size a.k (view a.shape.width a.shape.size a.s.now) p.0.counted.count (stamp-count _ _ known ∙ sym (leader-count _ _ known))
           (entry_uses a.n a.buffer.now) c.add_votes-voted.ensures.uses c.add_stamps-stamped.ensures.uses told.2

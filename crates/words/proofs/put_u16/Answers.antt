@@ -1,17 +1,12 @@
--- The stores are those of the definition's bytes, highest first.
-use native.Mathlib.Nat.{div-one}
-use native.Mathlib.Numerals.{towards_suc}
+-- The bytes of the number are those of the definition.
+use mathlib.Core.Path.{◌≡◌, ◌∙◌}
 use Rattle.words.specs.BigEndian.{be}
-use native.Mathlib.Omega.{arith}
-use lib.ListN.{length-set}
+use Rattle.words.proofs.Laws.{sets_part, two_bytes}
 use Rattle.words.proofs.put_u16.Goals as goal
-
-pub bounds-out-at-2 : goal.bounds-out-at-2
-bounds-out-at-2 c = simp length-set (omega arith)
-
-pub shape_of-out : goal.shape_of-out
-shape_of-out c = simp length-set
 
 pub returns : goal.returns
 unfolding be
-returns c = simp (towards_suc, div-one)
+returns c =
+    let a = c.args in
+    let bytes : c.copy_from_slice.new.self ≡ be 2 a.x = c.copy_from_slice.ensures.after ∙ c.to_be_bytes.ensures ∙ two_bytes a.x in
+    rw bytes (sets_part a.out.now (be 2 a.x) a.at c.requires)

@@ -12,12 +12,12 @@ pub last_term-term-requires : goal.last_term-term-requires
 last_term-term-requires c =
     let a = c.args in
     let inside = record_inside a.width a.size a.s.now
-    (sym c.commit_part.ensures ∙ c.in-Found.is) c.requires.2 c.requires.1 in
+    (sym c.commit_part.ensures ∙ c.in-Some.is) c.requires.2 c.requires.1 in
     (c.requires.0.width, inside)
 
 pub returns : goal.returns
 returns c =
     let a = c.args in
     some-receipts a.width a.size a.s.now
-    (sym c.commit_part.ensures ∙ c.in-Found.is) c.requires.2
+    (sym c.commit_part.ensures ∙ c.in-Some.is) c.requires.2
     c.last_term-term.ensures

@@ -10,20 +10,19 @@ use Rattle.lm_hash.proofs.Heads.{block_step}
 use Rattle.lm_hash.proofs.message.first_block.Goals as goal
 
 pub loop-i-init : goal.loop-i-init
-loop-i-init c = (search rules, refl, refl)
+loop-i-init c = (search rules, refl)
 
 pub loop-i-preserved : goal.loop-i-preserved
 loop-i-preserved c =
     let l = c.loop-i in
     let a = c.args in (
-      omega arith,
-      simp length-set l.invariant.1,
+      simp length-set l.invariant.0,
       block_step (a.head.now ++ a.message.now) l.block l.i c.byte_at.result (omega arith) (omega arith)
-          c.byte_at.ensures l.invariant.2,
+          c.byte_at.ensures l.invariant.1,
     )
 
 pub returns : goal.returns
 returns c =
     let l = c.loop-i in
     let end : l.i ≡ 64 = omega arith in
-    sym (take_all 64 l.block (omega arith)) ∙ (rw end at l.invariant.2)
+    sym (take_all 64 l.block (omega arith)) ∙ (rw end at l.invariant.1)

@@ -1,10 +1,6 @@
 -- One record a turn: p has the pointers after record k.
-use Prim.Native.Nat.{◌-◌, ◌≤◌}
 use Rattle.log_terms.specs.Pointed.{PointersCarried}
 use Rattle.log_terms.proofs.pointers.pointers_after.Given as goal
 
 abbrev pub invariant-loop-k : goal.invariant-loop-k
-invariant-loop-k l = (l.k ≤ l.end) × PointersCarried l.width l.commit l.k l.s l.p
-
-abbrev pub decreases-loop-k : goal.decreases-loop-k
-decreases-loop-k l = l.end - l.k
+invariant-loop-k l = PointersCarried l.width l.commit l.k l.s l.p

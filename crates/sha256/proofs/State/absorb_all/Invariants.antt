@@ -1,14 +1,9 @@
--- One block a turn: the blocks that are left give what all of them give.
--- A loop that counts down, with the needs of any such loop; the step that is its own is `blocks-first`.
-use Prim.Native.Nat.{◌≤◌, ◌+◌, ◌*◌}
+-- One block a turn: what is left of the bytes gives what all of them give.
 use mathlib.Core.Path.{◌≡◌}
-use lib.ListN.{length, drop}
-use Rattle.sha256.specs.Sha256.{blocks}
+use Rattle.std.specs.Slice.Iter.{chunks_exact_rest, chunks_exact_size}
+use Rattle.sha256.specs.Sha256.{hash}
 use Rattle.sha256.proofs.State.absorb_all.Given as goal
 
-abbrev pub invariant-loop-left : goal.invariant-loop-left
-invariant-loop-left l =
-    (l.at + 64 * l.left ≤ length l.bytes) × (blocks l.left l.s (drop l.at l.bytes) ≡ blocks l.initial.left l.initial.s l.bytes)
-
-abbrev pub decreases-loop-left : goal.decreases-loop-left
-decreases-loop-left l = l.left
+abbrev pub invariant-loop-block : goal.invariant-loop-block
+invariant-loop-block l =
+    (chunks_exact_size l.block-iterator ≡ 64) × (hash l.s (chunks_exact_rest l.block-iterator) ≡ hash l.initial.s l.bytes)

@@ -1,5 +1,4 @@
--- Eight runs of eight rounds.
--- Eight calls, so that the needs are listed as in each group; the argument is `rounds_eights`.
+-- Eight runs of eight rounds; the argument is `rounds_eights`.
 use Rattle.sha256.proofs.Rounds.{rounds_eights}
 use mathlib.Core.Path.{sym}
 use Rattle.sha256.proofs.State.rounds.Goals as goal
@@ -8,13 +7,13 @@ pub returns : goal.returns
 returns c =
     let a = c.args in
     simp (
-      c.rounds_56.ensures,
-      c.rounds_48.ensures,
-      c.rounds_40.ensures,
-      c.rounds_32.ensures,
-      c.rounds_24.ensures,
-      c.rounds_16.ensures,
-      c.rounds_8.ensures,
-      c.rounds_0.ensures,
+      c.eight_rounds-8.ensures,
+      c.eight_rounds-7.ensures,
+      c.eight_rounds-6.ensures,
+      c.eight_rounds-5.ensures,
+      c.eight_rounds-4.ensures,
+      c.eight_rounds-3.ensures,
+      c.eight_rounds-2.ensures,
+      c.eight_rounds.ensures,
     )
     (sym (rounds_eights a.w.now a.self))

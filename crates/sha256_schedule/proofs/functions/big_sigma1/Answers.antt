@@ -7,4 +7,5 @@ use Rattle.sha256_schedule.proofs.functions.big_sigma1.Goals as goal
 
 pub returns : goal.returns
 unfolding Σ₁ rotr shr
-returns c = let x = c.args.x in ap (λ (v : ℕ). bit_xor v (rotr 25 x)) (rotr_nested 6 5 21 x refl c.ranges.x.fits)
+returns c = let x = c.args.x in
+    rw (c.rotate_right-2.ensures, c.rotate_right-3.ensures, c.rotate_right.ensures) (ap (λ (v : ℕ). bit_xor v (rotr 25 x)) (rotr_nested 6 5 21 x refl c.ranges.x.fits))

@@ -7,4 +7,5 @@ use Rattle.sha256_schedule.proofs.functions.small_sigma0.Goals as goal
 
 pub returns : goal.returns
 unfolding σ₀ rotr shr
-returns c = let x = c.args.x in ap (λ (v : ℕ). bit_xor v (shr 3 x)) (rotr_nested 7 11 14 x refl c.ranges.x.fits)
+returns c = let x = c.args.x in
+    rw (c.rotate_right-2.ensures, c.rotate_right.ensures) (ap (λ (v : ℕ). bit_xor v (shr 3 x)) (rotr_nested 7 11 14 x refl c.ranges.x.fits))

@@ -29,7 +29,7 @@ pub returns : goal.returns
 returns c =
     let a = c.args in
     let end = c.trailer_at-end.result in
-    let says = commit-says a.size a.s.now a.from end (sym c.read_commit.ensures.0 ∙ c.in-Read.is) in
+    let says = commit-says a.size a.s.now a.from end (sym c.read_commit.ensures.0 ∙ c.in-Some.is) in
     ap (λ (n : ℕ). eqb n end) says.1
     ∙ ap (eqb (commit_end a.size a.s.now a.from)) c.trailer_at-end.ensures
     ∙ commit-ends a.size a.s.now a.from (omega arith) (λ e. c.if-back-eq0.false (omega arith))

@@ -16,13 +16,13 @@ returns-in_default c =
 pub overflow_add-stamps : goal.overflow_add-stamps
 overflow_add-stamps c =
     let a = c.args in
-    let says = place-says a.width a.size a.s.now _ a.from _ _ (sym c.place_after.ensures.0 ∙ c.in-At.is) in
+    let says = place-says a.width a.size a.s.now _ a.from _ _ (sym c.place_after.ensures.0 ∙ c.in-Some.is) in
     omega arith
 
 pub returns-then-stamps-distance : goal.returns-then-stamps-distance
 returns-then-stamps-distance c =
     let a = c.args in
-    let says = place-says a.width a.size a.s.now _ a.from _ _ (sym c.place_after.ensures.0 ∙ c.in-At.is) in
+    let says = place-says a.width a.size a.s.now _ a.from _ _ (sym c.place_after.ensures.0 ∙ c.in-Some.is) in
     let here = rw c.leader_count-leaders.ensures.0 at says.0 in
     stamps-elsewhere a.width a.size a.s.now a.from (λ e. c.if-stamps-distance.true (omega arith))
 
@@ -34,14 +34,14 @@ overflow_mul-leaders c =
 pub overflow_add-stamps-2 : goal.overflow_add-stamps-2
 overflow_add-stamps-2 c =
     let a = c.args in
-    let says = place-says a.width a.size a.s.now _ a.from _ _ (sym c.place_after.ensures.0 ∙ c.in-At.is) in
+    let says = place-says a.width a.size a.s.now _ a.from _ _ (sym c.place_after.ensures.0 ∙ c.in-Some.is) in
     let few = stamps-le c.leader_count-leaders.result a.size (omega arith) c.requires.0.signature in
     omega arith
 
 pub commit_stands-requires : goal.commit_stands-requires
 commit_stands-requires c =
     let a = c.args in
-    let says = place-says a.width a.size a.s.now _ a.from _ _ (sym c.place_after.ensures.0 ∙ c.in-At.is) in
+    let says = place-says a.width a.size a.s.now _ a.from _ _ (sym c.place_after.ensures.0 ∙ c.in-Some.is) in
     let few = stamps-le c.leader_count-leaders.result a.size (omega arith) c.requires.0.signature in
     let p = c.requires.0 in
     (p.long, p.short, p.signature, omega arith)
@@ -50,6 +50,6 @@ pub returns : goal.returns
 returns c =
     let a = c.args in
     let lead = c.leader_count-leaders.ensures.0 in
-    let says = place-says a.width a.size a.s.now _ a.from _ _ (sym c.place_after.ensures.0 ∙ c.in-At.is) in
+    let says = place-says a.width a.size a.s.now _ a.from _ _ (sym c.place_after.ensures.0 ∙ c.in-Some.is) in
     let here = rw lead at says.0 in
     stamps-here a.width a.size a.s.now a.from (omega arith) (rw (← here, ← lead) c.commit_stands.ensures)

@@ -1,11 +1,11 @@
 -- Eight rounds, one after the other.
--- One of eight groups of one shape, which src/lib.rt has a reason for.
+use native.Mathlib.Numerals.{towards_suc}
 use Rattle.sha256.specs.Sha256.{rounds}
-use Rattle.sha256.proofs.State.rounds_48.Goals as goal
+use Rattle.sha256.proofs.State.eight_rounds.Goals as goal
 
 pub returns : goal.returns
 unfolding rounds
-returns c =
+returns g c =
     simp (
       c.round_at-8.ensures,
       c.round_at-7.ensures,
@@ -15,4 +15,5 @@ returns c =
       c.round_at-3.ensures,
       c.round_at-2.ensures,
       c.round_at.ensures,
+      towards_suc,
     )
