@@ -1,7 +1,7 @@
 // A file, read whole into a buffer (document 01, "The report": the files of the program `audit`).
 #![tactic(auto)]
 
-ghost use Rattle.std.specs.Prelude.{◌≡◌, ◌<◌, ◌≤◌, length, take, IfSome, IsTrue};
+ghost use Rattle.std.specs.Prelude.{◌≡◌, ◌≤◌, length, take, IfSome, IsTrue};
 ghost use Rattle.std.specs.Io.KnownBytes.{Consumes, IsAtEnd};
 
 use std::fs::File;
@@ -41,25 +41,23 @@ fn at_end<F: Read>(file: &mut F) -> bool
     matches!(file.read(&mut more), Ok(0))
 }
 
-// Puts what a file has left at the start of `buffer`, and gives its length: 0 where it cannot be read, or is
-// larger than `buffer`.
-fn read_whole<F: Read>(file: &mut F, buffer: &mut [u8]) -> usize
-    ensures within { result ≤ length buffer.new }
-    ensures whole { 0 < result → IfSome (F.remaining file.old) (λ bytes. take result buffer.new ≡ bytes) }
+// Puts what a file has left at the start of `buffer`, and gives its length: none where it cannot be read, or
+// is larger than `buffer`.
+fn read_whole<F: Read>(file: &mut F, buffer: &mut [u8]) -> Option<usize>
+    ensures within { IfSome result (λ n. n ≤ length buffer.new) }
+    ensures whole { IfSome result
+        (λ n. IfSome (F.remaining file.old) (λ bytes. take n buffer.new ≡ bytes)) }
 {
     let n = read_full(file, buffer);
-    if at_end(file) { n } else { 0 }
+    if at_end(file) { Some(n) } else { None }
 }
 
-// Puts a file at the start of `buffer`, and gives its length: 0 for a file that is missing, that cannot be
-// read, or that is larger than `buffer`. No bytes are number 2 of a roster and number 5 of a submission, as
-// a larger file is: it is never validated by its beginning.
-pub fn load<R: Files>(files: &R, name: &[u8], buffer: &mut [u8]) -> usize
-    ensures within { result ≤ length buffer.new }
-    ensures taken { result ≡ length (take result buffer.new) }
+// Puts a file at the start of `buffer`, and gives its length: none for a file that is missing, that cannot be
+// read, or that is larger than `buffer`, so that a larger file is never taken for its beginning.
+pub fn load<R: Files>(files: &R, name: &[u8], buffer: &mut [u8]) -> Option<usize>
+    ensures within { IfSome result (λ n. n ≤ length buffer.new) }
+    ensures taken { IfSome result (λ n. n ≡ length (take n buffer.new)) }
 {
-    let Ok(mut file) = open(files, name) else {
-        return 0;
-    };
+    let mut file = open(files, name).ok()?;
     read_whole(&mut file, buffer)
 }

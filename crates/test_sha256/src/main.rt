@@ -22,24 +22,10 @@ fn print_digest(rt: &impl Print, digits: &[u8]) -> io::Result<()> {
     }
 }
 
-// Prints the digest of each line's message. (`test_lms` has the same loop around another function.)
-fn print_lines(rt: &impl Print, text: &[u8]) -> io::Result<()> {
-    let mut at = 0;
-    while at < text.len() {
-        print_digest(rt, &text[at..])?;
-        at = test_vectors::past(text, at, b'\n');
-    }
-    Ok(())
-}
-
-// Prints the digests of a file's messages. A file that cannot be read whole is an error in the output.
+// Prints the digests of a file's messages.
 fn print_file(rt: &(impl Files + Print), name: &[u8]) -> io::Result<()> {
     let mut text = [0u8; 65536];
-    let n = test_vectors::load(rt, name, &mut text);
-    if n == 0 {
-        return rt.write_all(b"cannot read\n");
-    }
-    print_lines(rt, &text[..n])
+    test_vectors::print_file(rt, name, &mut text, |line| print_digest(rt, line))
 }
 
 fn main(rt: HostRuntime) -> io::Result<()> {

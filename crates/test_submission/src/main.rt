@@ -28,45 +28,28 @@ fn print_validated(rt: &impl Print, validated: Validated) -> io::Result<()> {
 // the output.
 fn print_submission(rt: &(impl Files + Print), roster: &[u8], name: &[u8]) -> io::Result<()> {
     let mut submission = [0u8; 16384];
-    let n = test_vectors::load(rt, name, &mut submission);
+    let read = program_files::load(rt, name, &mut submission);
     rt.write_all(name)?;
-    if n == 0 {
+    let Some(n) = read else {
         return rt.write_all(b" cannot be read\n");
-    }
+    };
     print_validated(rt, submission_checks::validate(roster, &submission[..n]))
 }
 
-// Prints those whose number their bytes decide.
-fn print_bytes(rt: &(impl Files + Print), roster: &[u8]) -> io::Result<()> {
-    print_submission(rt, roster, b"n00")?;
-    print_submission(rt, roster, b"n05")?;
-    print_submission(rt, roster, b"n06")?;
-    print_submission(rt, roster, b"n07")?;
-    print_submission(rt, roster, b"n08")?;
-    print_submission(rt, roster, b"n09")
-}
+// The submissions whose number their bytes decide.
+const BY_BYTES: [&[u8]; 6] = [b"n00", b"n05", b"n06", b"n07", b"n08", b"n09"];
 
-// Prints those whose number what they say decides.
-fn print_content(rt: &(impl Files + Print), roster: &[u8]) -> io::Result<()> {
-    print_submission(rt, roster, b"n10")?;
-    print_submission(rt, roster, b"n11")?;
-    print_submission(rt, roster, b"n12")?;
-    print_submission(rt, roster, b"n13")?;
-    print_submission(rt, roster, b"n14")?;
-    print_submission(rt, roster, b"n15")
-}
+// Those whose number what they say decides.
+const BY_CONTENT: [&[u8]; 6] = [b"n10", b"n11", b"n12", b"n13", b"n14", b"n15"];
 
-// Prints those that are accepted, committed in part, not at all and up to the end.
-fn print_accepted(rt: &(impl Files + Print), roster: &[u8]) -> io::Result<()> {
-    print_submission(rt, roster, b"whole")?;
-    print_submission(rt, roster, b"uncommitted")?;
-    print_submission(rt, roster, b"committed")
-}
+// Those that are accepted, committed in part, not at all and up to the end.
+const ACCEPTED: [&[u8]; 3] = [b"whole", b"uncommitted", b"committed"];
 
 fn main(rt: HostRuntime) -> io::Result<()> {
     let mut bytes = [0u8; 1024];
-    let n = test_vectors::load(&rt, b"roster", &mut bytes);
-    print_bytes(&rt, &bytes[..n])?;
-    print_content(&rt, &bytes[..n])?;
-    print_accepted(&rt, &bytes[..n])
+    let n = program_files::load(&rt, b"roster", &mut bytes).unwrap_or(0);
+    for name in BY_BYTES.iter().chain(&BY_CONTENT).chain(&ACCEPTED) {
+        print_submission(&rt, &bytes[..n], name)?;
+    }
+    Ok(())
 }

@@ -38,10 +38,8 @@ fn put_replicas(out: &mut [u8], at: usize, report: &[u8]) -> usize
         (replica_lines report.now row_count 1) replicas_room }
 {
     let mut next = at;
-    let mut k: usize = 1;
-    while k <= ROW_COUNT {
+    for k in 1..=ROW_COUNT {
         next = put_named(out, next, report, k);
-        k += 1;
     }
     next
 }

@@ -1,6 +1,10 @@
 -- The fork and the rows from the first difference of the logs and the receipts.
+use mathlib.Core.Path.{◌≡◌}
 use native.Mathlib.Omega.{arith}
+use Rattle.std.specs.Prelude.{unwrap_or}
 use Rattle.submission_parts.proofs.Inside.{records-inside}
+use Rattle.forensics_charges.specs.Charges.{difference_of}
+use Rattle.forensics_find.proofs.Reached.{index_kept}
 use Rattle.forensics_find.proofs.Shown.{read-says}
 use Rattle.forensics_find.proofs.found.Goals as goal
 
@@ -26,10 +30,16 @@ receipts_of-second-requires c = let p = c.requires in (p.3, p.4, p.5)
 pub rows-requires : goal.rows-requires
 rows-requires c = let p = c.requires in (p.0, p.1, p.3, p.4)
 
-pub returns : goal.returns
-returns c =
+pub returns-clause-findings : goal.returns-clause-findings
+returns-clause-findings c =
     let a = c.args in
-    read-says a.width a.size a.a.now a.b.now _ _ c.difference-difference.ensures
+    let d = c.difference-difference.result in
+    let is : d ≡ difference_of (unwrap_or d 0) = index_kept d c.difference-difference.ensures.from_one in
+    read-says a.width a.size a.a.now a.b.now _ _ c.difference-difference.ensures.index
     c.record_count.ensures.0
     c.record_count-2.ensures.0
-    c.receipts_of-first.ensures c.receipts_of-second.ensures c.fork.ensures c.rows.ensures
+    c.receipts_of-first.ensures c.receipts_of-second.ensures (rw is at c.fork.ensures.index)
+    (rw is at c.rows.ensures)
+
+pub returns-clause-fork : goal.returns-clause-fork
+returns-clause-fork c = c.fork.ensures.from_one c.difference-difference.ensures.from_one

@@ -1,14 +1,8 @@
 -- A replica a turn: before replica k the lines of the replicas below it are put.
-use mathlib.Core.Path.{◌≡◌}
-use Prim.Native.Nat.{◌-◌, ◌*◌, ◌≤◌, ◌<◌}
-use lib.ListN.{length}
+use Prim.Native.Nat.{◌-◌, ◌*◌}
 use Rattle.text_report.specs.Lines.{replica_lines}
 use Rattle.text_decimal.specs.Put.{Put}
 use Rattle.text_report.proofs.put_replicas.Given as goal
 
 abbrev pub invariant-loop-k : goal.invariant-loop-k
-invariant-loop-k l =
-    (0 < l.k) × (l.k ≤ 10) × (length l.out ≡ length l.initial.out) × Put l.initial.out l.out l.at l.next (replica_lines l.report (l.k - 1) 1) (49 * (l.k - 1))
-
-abbrev pub decreases-loop-k : goal.decreases-loop-k
-decreases-loop-k l = 10 - l.k
+invariant-loop-k l = Put l.initial.out l.out l.at l.next (replica_lines l.report (l.k - 1) 1) (49 * (l.k - 1))

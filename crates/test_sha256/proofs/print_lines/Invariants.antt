@@ -1,7 +1,0 @@
--- Each turn moves past a line feed or to the end of the text, so that less of it is left. Nothing has to hold
--- from turn to turn.
-use Rattle.std.proofs.Common.{◌-◌, length}
-use Rattle.test_sha256.proofs.print_lines.Given as goal
-
-abbrev pub decreases-loop-at : goal.decreases-loop-at
-decreases-loop-at g l = length l.text - l.at
