@@ -76,7 +76,12 @@ fn validate_log(roster: &[u8], s: &[u8], shape: Shape) -> Result<LogPointers, Re
 }
 
 // 9 to 15.
-fn validate_parts(roster: &[u8], s: &[u8], width: usize, size: usize) -> Result<LogPointers, Refusal>
+fn validate_parts(
+    roster: &[u8],
+    s: &[u8],
+    width: usize,
+    size: usize,
+) -> Result<LogPointers, Refusal>
     requires { (roster_number roster.now ≡ 0) × Bounds width size s.now }
     ensures number { number_of result ≡ refusal (part_checks roster.now width size
         s.now) }

@@ -42,8 +42,11 @@ pub returns-then-not-all_signatures_good : goal.returns-then-not-all_signatures_
 unfolding leader_checks
 returns-then-not-all_signatures_good c =
     let led = asked_leading _ _ _ _ c.replicas-n.ensures.0 c.leaders_match_log.ensures.holds in
-    record { number = sym (passed 13 _ _ (sym led ∙ ap is_some c.in-Some.is) ∙ passed 14 _ _ (met c.index_within_log.ensures (ap not c.if-not-index_within_log.false))
-    ∙ refused 15 _ _ (unmet c.all_signatures_good.ensures (ap not c.if-not-all_signatures_good.true))); pointers = tt }
+    record {
+      number = sym (passed 13 _ _ (sym led ∙ ap is_some c.in-Some.is) ∙ passed 14 _ _ (met c.index_within_log.ensures (ap not c.if-not-index_within_log.false))
+          ∙ refused 15 _ _ (unmet c.all_signatures_good.ensures (ap not c.if-not-all_signatures_good.true)));
+      pointers = tt;
+    }
 
 pub returns : goal.returns
 returns c =

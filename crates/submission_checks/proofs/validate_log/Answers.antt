@@ -1,6 +1,5 @@
 -- The terms in order, then their number, then the leaders.
 use mathlib.Core.Path.{sym, ◌∙◌}
-use native.Mathlib.Omega.{arith}
 use borrow.Author.Tests.{eq-eqb, ne_eqb}
 use Rattle.refusal.proofs.Laws.{passed, refused, met, unmet}
 use Rattle.submission_checks.specs.Checks.{log_checks}

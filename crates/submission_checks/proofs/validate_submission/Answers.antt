@@ -35,8 +35,11 @@ name_matches-requires c =
 pub returns-then-not-name_matches : goal.returns-then-not-name_matches
 unfolding validate
 returns-then-not-name_matches c =
-    record { number = sym (passed 5 _ _ (met c.size_in_range.ensures (ap not c.if-not-size_in_range.false)) ∙ passed 6 _ _ (met c.version_known.ensures (ap not c.if-not-version_known.false))
-    ∙ refused 7 _ _ (unmet c.name_matches.ensures (ap not c.if-not-name_matches.true))); pointers = tt }
+    record {
+      number = sym (passed 5 _ _ (met c.size_in_range.ensures (ap not c.if-not-size_in_range.false)) ∙ passed 6 _ _ (met c.version_known.ensures (ap not c.if-not-version_known.false))
+          ∙ refused 7 _ _ (unmet c.name_matches.ensures (ap not c.if-not-name_matches.true)));
+      pointers = tt;
+    }
 
 pub counts_in_range-requires : goal.counts_in_range-requires
 counts_in_range-requires c =
@@ -45,8 +48,11 @@ counts_in_range-requires c =
 pub returns-then-not-counts_in_range : goal.returns-then-not-counts_in_range
 unfolding validate
 returns-then-not-counts_in_range c =
-    record { number = sym (passed 5 _ _ (met c.size_in_range.ensures (ap not c.if-not-size_in_range.false)) ∙ passed 6 _ _ (met c.version_known.ensures (ap not c.if-not-version_known.false))
-    ∙ passed 7 _ _ (met c.name_matches.ensures (ap not c.if-not-name_matches.false)) ∙ refused 8 _ _ (unmet c.counts_in_range.ensures (ap not c.if-not-counts_in_range.true))); pointers = tt }
+    record {
+      number = sym (passed 5 _ _ (met c.size_in_range.ensures (ap not c.if-not-size_in_range.false)) ∙ passed 6 _ _ (met c.version_known.ensures (ap not c.if-not-version_known.false))
+          ∙ passed 7 _ _ (met c.name_matches.ensures (ap not c.if-not-name_matches.false)) ∙ refused 8 _ _ (unmet c.counts_in_range.ensures (ap not c.if-not-counts_in_range.true)));
+      pointers = tt;
+    }
 
 pub signature_size-size-requires : goal.signature_size-size-requires
 signature_size-size-requires c =
