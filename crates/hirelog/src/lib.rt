@@ -99,5 +99,5 @@ pub fn hirelog_assemble(roster: &[u8], log: &[u8], items: &[u8], output: &mut [u
     ensures assembled { Assembled roster.now log.now result.number result.length
         output.new }
 {
-    assembly_service::assemble(roster, log, items, output)
+    assembly_service::assemble(roster, log, items, output).into()
 }
