@@ -22,7 +22,7 @@ pub fn digit(s: &[u8], bits: u32, i: usize) -> u32
     let at = i / each;
     let before = bits * ((i % each) as u32);
     let after = 8 - (before + bits);
-    (words::wide(s[at]) >> after) % (1 << bits)
+    (u32::from(s[at]) >> after) % (1 << bits)
 }
 
 // How many digits Q has (RFC 8554, appendix B: u).
