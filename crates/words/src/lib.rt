@@ -10,13 +10,6 @@ ghost use Rattle.words.specs.Widths.{width_most};
 // The most bytes of a number that is held in 64 bits.
 pub const WIDTH_MOST: usize = 8;
 
-// A byte as a 32-bit number.
-pub fn wide(x: u8) -> u32
-    ensures { (result ≡ x) × (result < 256) }
-{
-    x as u32
-}
-
 // The 2-byte number at a place.
 pub fn u16_at(s: &[u8], at: usize) -> u16
     requires { at + 2 ≤ length s.now }
