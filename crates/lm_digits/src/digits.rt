@@ -58,8 +58,8 @@ fn join_checksum(q: [u8; HASH_SIZE], checksum: u32) -> [u8; CHECKED_SIZE]
     s
 }
 
-// Q || Cksm(Q) (RFC 8554, 4.6, algorithm 4b, step 3), with the steps of all chains: the sum over the digits of Q is the
-// checksum before its shift, and the steps are that sum over all digits.
+// Q || Cksm(Q) (RFC 8554, 4.6, algorithm 4b, step 3), with the steps of all chains for it (document 02, W7):
+// the sum over the digits of Q is the checksum before its shift, and the steps are that sum over all digits.
 pub fn with_checksum(q: [u8; HASH_SIZE], o: Parameters) -> WithSteps<[u8; CHECKED_SIZE]>
     requires { Listed o }
     ensures bytes { result.value ≡ with_checksum o q }
