@@ -1,6 +1,7 @@
 -- The accepted submissions as the code holds them: where each stands in the buffer, its position, and its
 -- pointers.
-use Rattle.std.specs.Prelude.{◌≡◌, cond, ℕ, suc, ◌+◌, ◌≤◌, eqb, length, take, drop, Option, Some, Result, Ok, Err}
+use Rattle.std.specs.Prelude.{◌≡◌, cond, ℕ, suc, ◌+◌, ◌≤◌, eqb, length, take, drop}
+use Rattle.std.specs.Prelude.{Option, Some, Result, Ok, Err}
 use mathlib.Core.List.{List, [], ◌∷◌, map, Memᴰ}
 use Rattle.std.specs.Int.Bits.{bit_or}
 use Rattle.roster.specs.Roster.{roster_number}
