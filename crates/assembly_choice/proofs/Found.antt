@@ -23,6 +23,7 @@ use Rattle.assembly_copies.specs.Sought.{CopiesFound}
 use Rattle.assembly_terms.specs.Wanted.{vote_head, vote_tail, stamp_head, stamp_tail, VotesIn, StampsIn}
 use Rattle.assembly_terms.proofs.Wanted.{votes-set, vote-statement, stamp-statement}
 use Rattle.assembly_choice.specs.declared.Terms.{Terms}
+use Rattle.assembly_choice.specs.Chosen.{sought_for}
 use Rattle.assembly_choice.specs.Settled.{StampsPlaced, VotesPlaced}
 
 -- ---- the copy of one replica, from those of all
@@ -56,11 +57,11 @@ fewer_terms_inside head tail count room few h = omega (arith, mul-le-mul_left ta
 
 abbrev pub votes_sought : Terms → Sought
 votes_sought terms =
-    record { width = terms.width; size = terms.size; head = vote_head; tail = vote_tail terms.width; count = terms.count }
+    sought_for terms vote_head (vote_tail terms.width)
 
 abbrev pub stamps_sought : Terms → Sought
 stamps_sought terms =
-    record { width = terms.width; size = terms.size; head = stamp_head; tail = stamp_tail terms.width; count = terms.count }
+    sought_for terms stamp_head (stamp_tail terms.width)
 
 module _ (roster item_bytes : List ℕ) (terms : Terms) (fine : roster_number roster ≡ 0) (rs : List Run) (all : length rs ≡ terms.count) where
   named : length (cluster roster) ≡ name_size

@@ -10,8 +10,14 @@ use Rattle.submission.specs.Validate.{leader_most}
 use Rattle.assembly.specs.Items.{items_of, whole}
 use Rattle.assembly.specs.Choice.{leads_for}
 use Rattle.assembly_copies.specs.Rows.{taken_size, leads_in}
+use Rattle.assembly_copies.specs.declared.Sought.{Sought}
 use Rattle.assembly_terms.specs.Wanted.{VotesIn, StampsIn}
 use Rattle.assembly_choice.specs.declared.Terms.{Terms}
+
+-- what is looked for in a walk over the bag: a statement for each term
+abbrev pub sought_for : Terms → ℕ → ℕ → Sought
+sought_for t head tail =
+    record { width = t.width; size = t.size; head = head; tail = tail; count = t.count }
 
 pub record Choosable (roster item_bytes : List ℕ) (t : Terms) : Type 0 where
   pub fine : roster_number roster ≡ 0

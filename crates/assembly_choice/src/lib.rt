@@ -9,7 +9,7 @@ ghost use Rattle.log_chain.specs.Runs.{Run};
 ghost use Rattle.roster.specs.Sizes.{replicas_most};
 ghost use Rattle.assembly_copies.specs.Rows.{taken_size, Placed};
 ghost use Rattle.assembly_terms.specs.Wanted.{votes_room, stamps_room, VotesIn, StampsIn};
-ghost use Rattle.assembly_choice.specs.Chosen.{Choosable, LeadersChosen, RowsHeld};
+ghost use Rattle.assembly_choice.specs.Chosen.{sought_for, Choosable, LeadersChosen, RowsHeld};
 ghost use Rattle.assembly_choice.specs.Settled.{all_taken, electable, Settled, Tried};
 ghost use Rattle.assembly_choice.specs.Settled.{StampsPlaced, VotesPlaced};
 
@@ -25,17 +25,30 @@ pub struct Terms {
     pub count: usize,
 }
 
+impl Terms {
+    // Statements, one for each term, that begin with so many bytes and have so many of their own.
+    fn sought(self, head: usize, tail: usize) -> Sought
+        ensures { result ≡ sought_for self head tail }
+    {
+        Sought {
+            width: self.width,
+            size: self.size,
+            head,
+            tail,
+            count: self.count,
+        }
+    }
+}
+
 // Whether each of so many rows has a candidate.
 fn all_taken(taken: &[usize], count: usize) -> bool
     requires { taken_size * count ≤ length taken.now }
     ensures { result ≡ all_taken count taken.now }
 {
-    let mut t = 0;
-    while t < count {
+    for t in 0..count {
         if taken[TAKEN_SIZE * t] == 0 {
             return false;
         }
-        t += 1;
     }
     true
 }
@@ -45,13 +58,7 @@ fn is_electable(n: usize, mask: u16, candidate: usize, stamp: usize) -> bool
     requires { (0 < n) × (n ≤ replicas_most) × (0 < candidate) }
     ensures { result ≡ electable n mask candidate stamp }
 {
-    if u16::count_ones(mask) < roster::quorum(n) {
-        return false;
-    }
-    if !roster::signer(mask, candidate) {
-        return false;
-    }
-    stamp != 0
+    roster::quorum(n) <= u16::count_ones(mask) && roster::signer(mask, candidate) && stamp != 0
 }
 
 // Puts a candidate down for each term in which it will do.
@@ -70,16 +77,13 @@ fn settle(
         taken.old taken.new }
     ensures room { length taken.new ≡ length taken.old }
 {
-    let mut t = 0;
-    while t < count {
+    for t in 0..count {
         let row = REPLICAS_MOST * t;
-        let at = TAKEN_SIZE * t;
-        t += 1;
         let votes = &voted[row..];
         let stamp = stamped[row + candidate - 1];
         let mask = assembly_copies::masks::mask_of(votes, n);
         if is_electable(n, mask, candidate, stamp) {
-            assembly_copies::places::put_row(taken, at, candidate, stamp, votes);
+            assembly_copies::places::put_row(taken, TAKEN_SIZE * t, candidate, stamp, votes);
         }
     }
 }
@@ -98,14 +102,8 @@ fn find_stamps(roster: &[u8], items: &[u8], stamps: &[u8], terms: Terms, stamped
         stamped.new }
     ensures room { length stamped.new ≡ length stamped.old }
 {
-    let width = terms.width;
-    let sought = Sought {
-        width,
-        size: terms.size,
-        head: assembly_terms::STAMP_HEAD,
-        tail: assembly_terms::stamp_tail(width),
-        count: terms.count,
-    };
+    let tail = assembly_terms::stamp_tail(terms.width);
+    let sought = terms.sought(assembly_terms::STAMP_HEAD, tail);
     assembly_copies::find_copies(roster, items, stamps, sought, stamped);
 }
 
@@ -130,14 +128,8 @@ fn find_votes(
         × (length voted.new ≡ length voted.old) }
 {
     words::put_u16(votes, assembly_terms::CANDIDATE_AT, candidate as u16);
-    let width = terms.width;
-    let sought = Sought {
-        width,
-        size: terms.size,
-        head: assembly_terms::VOTE_HEAD,
-        tail: assembly_terms::vote_tail(width),
-        count: terms.count,
-    };
+    let tail = assembly_terms::vote_tail(terms.width);
+    let sought = terms.sought(assembly_terms::VOTE_HEAD, tail);
     assembly_copies::find_copies(roster, items, votes, sought, voted);
 }
 
@@ -210,10 +202,8 @@ fn try_all(
     ensures rooms { (length votes.new ≡ length votes.old)
         × (length taken.new ≡ length taken.old) }
 {
-    let mut candidate = roster::replicas(roster);
-    while 0 < candidate {
+    for candidate in (1..=roster::replicas(roster)).rev() {
         try_candidate(roster, items, votes, stamped, terms, candidate, taken);
-        candidate -= 1;
     }
 }
 

@@ -45,10 +45,8 @@ fn find_receipts(
     ensures room { length places.new ≡ length places.old }
 {
     let width = widths.width;
-    let size = widths.size;
-    let records = widths.records;
     let term = log_terms::last_term(log, width, i);
-    let pointer = log_checkpoints::pointer_at(log, width, records, i, table);
+    let pointer = log_checkpoints::pointer_at(log, width, widths.records, i, table);
     let mut statement = [0u8; STATEMENT_MOST];
     let head = log_chain::put_place_statement(
         &mut statement,
@@ -60,9 +58,9 @@ fn find_receipts(
         pointer,
     );
     let sought = Sought {
-        width: width,
-        size: size,
-        head: head,
+        width,
+        size: widths.size,
+        head,
         tail: 0,
         count: 1,
     };
@@ -84,14 +82,12 @@ pub fn find_commit(roster: &[u8], log: &[u8], items: &[u8], widths: LogSizes, ro
     let n = roster::replicas(roster);
     let quorum = roster::quorum(n);
     let mut places = [0usize; REPLICAS_MOST];
-    let mut i = records;
-    while 0 < i {
+    for i in (1..=records).rev() {
         find_receipts(roster, log, items, widths, i, &table, &mut places);
         if quorum <= u16::count_ones(assembly_copies::masks::mask_of(&places, n)) {
             assembly_copies::places::put_row(row, 0, i, 0, &places);
             return;
         }
-        i -= 1;
     }
     assembly_copies::clear(row, TAKEN_SIZE);
 }

@@ -1,4 +1,3 @@
-mod Cells
 mod Copies
 mod Fitting
 pub mod Signers

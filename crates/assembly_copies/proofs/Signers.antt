@@ -1,27 +1,28 @@
 -- The signers of a row of places, from the last place down.
 -- Assumes nothing.
 use mathlib.Core.Path.{◌≡◌, refl, ◌∙◌}
+use mathlib.Core.Bool.{Bool, true, false, not}
 use mathlib.Core.List.{List}
+use mathlib.Core.Logic.{⊎_elim}
 use Prim.Native.Nat.{ℕ, suc, ◌+◌, ◌-◌, ◌*◌, ◌^◌, ◌≤◌, ◌<◌}
 use native.Mathlib.Nat.{pow-succ', pow-le-pow_right, lt_of_lt_of_le}
 use native.Mathlib.Omega.{arith}
-use borrow.Author.Tests.{eq-eqb, ne_eqb}
-use lib.Dec.{lit<}
+use mir.Val.{bool_byte}
+use lib.Dec.{eqb, lit<}
 use lib.ListN.{length, get_or, drop}
 use lib.Seq.{drop-cons}
+use Rattle.refusal.proofs.Laws.{look}
 use Rattle.submission_encoding.specs.Copies.{bit_of, signers_of}
 use Rattle.assembly_copies.specs.Rows.{copy_at, copies_at}
 
 -- ---- one place more
 
 module _ (S : ℕ) (item_bytes : List ℕ) where
-  bit-zero : (place : ℕ) → place ≡ 0 → bit_of (copy_at S item_bytes place) ≡ 0
+  -- what the code adds for a place
+  bit-test : (place : ℕ) → bool_byte (not (eqb place 0)) ≡ bit_of (copy_at S item_bytes place)
   unfolding bit_of copy_at
-  bit-zero place e = rw (eq-eqb place 0 e)
-
-  bit-one : (place : ℕ) → (place ≡ 0 → ⊥) → bit_of (copy_at S item_bytes place) ≡ 1
-  unfolding bit_of copy_at
-  bit-one place h = rw (ne_eqb place 0 h)
+  bit-test place =
+      ⊎_elim (λ (e : eqb place 0 ≡ true). rw e) (λ (e : eqb place 0 ≡ false). rw e) (look (eqb place 0))
 
   signers-cons : (places : List ℕ) (k m : ℕ) → k < length places
       → signers_of (copies_at S item_bytes (suc m) (drop k places)) ≡ bit_of (copy_at S item_bytes (get_or places k 0)) + 2 * signers_of (copies_at S item_bytes m (drop (suc k) places))
@@ -40,17 +41,21 @@ module _ (S : ℕ) (item_bytes : List ℕ) where
         let before : suc (k - 1) ≡ k = omega arith in
         rw one_more (signers-cons places (k - 1) (n - k) (omega arith) ∙ rw (before, ← so_far) refl)
 
-    pub signers-absent : get_or places (k - 1) 0 ≡ 0 → 2 * mask ≡ signers_of (copies_at S item_bytes (n - (k - 1)) (drop (k - 1) places))
-    signers-absent e = omega (arith, signers-step, bit-zero _ e)
-
-    pub signers-present : (get_or places (k - 1) 0 ≡ 0 → ⊥) → 2 * mask + 1 ≡ signers_of (copies_at S item_bytes (n - (k - 1)) (drop (k - 1) places))
-    signers-present h = omega (arith, signers-step, bit-one _ h)
+    pub signers-more : {bit : ℕ} → bit ≡ bool_byte (not (eqb (get_or places (k - 1) 0) 0))
+        → 2 * mask + bit ≡ signers_of (copies_at S item_bytes (n - (k - 1)) (drop (k - 1) places))
+    signers-more e = omega (arith, signers-step, bit-test (get_or places (k - 1) 0), e)
 
 -- ---- its bits
 
+pub bit_most : (b : Bool) → bool_byte b ≤ 1
+bit_most true = omega arith
+bit_most false = omega arith
+
 module _ (n k : ℕ) (more : 0 < k) (inside : k ≤ n) (mask : ℕ) (below : mask < 2 ^ (n - k)) where
-  pub bits-step : 2 * mask + 1 < 2 ^ (n - (k - 1))
-  bits-step = let one_more : n - (k - 1) ≡ suc (n - k) = omega arith in rw (one_more, pow-succ') (omega arith)
+  pub bits-step : {bit : ℕ} (b : Bool) → bit ≡ bool_byte b → 2 * mask + bit < 2 ^ (n - (k - 1))
+  bits-step b e =
+      let one_more : n - (k - 1) ≡ suc (n - k) = omega arith in
+      rw (one_more, pow-succ') (omega (arith, bit_most b, e))
 
   pub bits_fit : n ≤ 9 → mask < 512
   bits_fit h = let few : n - k ≤ 9 = omega arith in lt_of_lt_of_le below (pow-le-pow_right (lit< tt) few)

@@ -10,7 +10,7 @@ use Rattle.roster.specs.Roster.{replicas}
 use Rattle.roster.proofs.Accepted.{sizes}
 use Rattle.assembly.specs.Items.{items_of, whole}
 use Rattle.assembly_items.specs.declared.ItemPlace.{ItemPlace}
-use Rattle.assembly_items.specs.declared.ItemReading.TheVariants.{Read, Refused}
+use Rattle.std.specs.Prelude.{Some, None}
 use Rattle.assembly_items.specs.Reader.{item_reading}
 use Rattle.assembly_items.proofs.Items.{stands, refused-broken, items-next, whole-next, items-end}
 use Rattle.assembly_copies.specs.declared.Sought.{Sought}
@@ -21,7 +21,7 @@ use Rattle.assembly_copies.specs.Offers.{Lies, Unlike, Taken}
 use Rattle.assembly_copies.proofs.Copies.{Found, found_none, found-taken, found-unlike, found_all}
 
 -- an item that was read lies in the bag
-pub item_lies : (w S : ℕ) (item_bytes : List ℕ) (at : ℕ) {i : ItemPlace} → item_reading w S item_bytes at ≡ Read i → Lies S item_bytes i
+pub item_lies : (w S : ℕ) (item_bytes : List ℕ) (at : ℕ) {i : ItemPlace} → item_reading w S item_bytes at ≡ Some i → Lies S item_bytes i
 item_lies w S item_bytes at e =
     let here = stands w S item_bytes at e in
     record { begins = here.signature; ends = here.next; within = here.inside }
@@ -55,11 +55,11 @@ module _ (roster item_bytes wanted : List ℕ) (q : Sought) (room : ℕ) where
         found_all roster item_bytes wanted q rows few (omega (arith, s.cells, walked.long)) (rw (items-end q.width q.size item_bytes at end) at walked.found)
 
   module _ (rows : List ℕ) (at : ℕ) (walked : Walked rows at) (more : at < length item_bytes) where
-    -- no reading is refused
-    pub never : item_reading q.width q.size item_bytes at ≡ Refused → ⊥
+    -- every item is read
+    pub never : item_reading q.width q.size item_bytes at ≡ None → ⊥
     never e = false≢true (sym (refused-broken q.width q.size item_bytes at more e) ∙ walked.rest)
 
-    module _ {i : ItemPlace} (e : item_reading q.width q.size item_bytes at ≡ Read i) where
+    module _ {i : ItemPlace} (e : item_reading q.width q.size item_bytes at ≡ Some i) where
       next-rest : whole q.width q.size (drop i.next item_bytes) ≡ true
       next-rest = sym (whole-next q.width q.size item_bytes at more e) ∙ walked.rest
 

@@ -11,7 +11,7 @@ ghost use Rattle.assembly_copies.specs.Rows.{Placed};
 ghost use Rattle.assembly_copies.specs.Sought.{Searched, CopiesFound};
 ghost use Rattle.assembly_copies.specs.Offers.{Lies, Alike, Unlike, Offered, Taken, is_copy};
 
-use assembly_items::{ItemPlace, ItemReading};
+use assembly_items::ItemPlace;
 use roster::REPLICAS_MOST;
 
 pub mod masks;
@@ -42,11 +42,7 @@ pub fn clear(rows: &mut [usize], count: usize)
     ensures empty { (j : ℕ) → j < count → get_or rows.new j 0 ≡ 0 }
     ensures room { length rows.new ≡ length rows.old }
 {
-    let mut j = 0;
-    while j < count {
-        rows[j] = 0;
-        j += 1;
-    }
+    rows[..count].fill(0);
 }
 
 // Whether an item can be a copy: its replica is one of the roster's, and its statement is as long as those
@@ -60,26 +56,16 @@ fn alike(roster: &[u8], items: &[u8], wanted: &[u8], sought: Sought, item: ItemP
     ensures no { result ≡ false → Unlike roster.now items.now wanted.now
         sought item }
 {
-    let statement = item.statement;
-    let signature = item.signature;
-    let head = sought.head;
-    let tail = sought.tail;
-    let k = item.replica;
-    let own = signature - statement;
-    if own < head {
+    let k = item.replica as usize;
+    let own = item.signature - item.statement;
+    if own < sought.head || own - sought.head != sought.tail {
         return false;
     }
-    if own - head != tail {
+    if k == 0 || roster::replicas(roster) < k {
         return false;
     }
-    if k == 0 {
-        return false;
-    }
-    if roster::replicas(roster) < k as usize {
-        return false;
-    }
-    let end = statement + head;
-    check::same(&items[statement..end], &wanted[..head])
+    let end = item.statement + sought.head;
+    items[item.statement..end] == wanted[..sought.head]
 }
 
 // Whether an item that begins as the statements do is a copy: it ends with some bytes, and its signature is
@@ -91,20 +77,14 @@ fn is_copy(roster: &[u8], items: &[u8], item: ItemPlace, end: &[u8]) -> bool
         × (item.signature ≤ item.next) × (item.next ≤ length items.now) }
     ensures { result ≡ is_copy roster.now items.now item end.now }
 {
-    let statement = item.statement;
-    let signature = item.signature;
-    let next = item.next;
-    let k = item.replica;
-    let own = signature - end.len();
-    if !check::same(&items[own..signature], end) {
-        return false;
-    }
-    submission_slots::signature_genuine(
-        roster,
-        k as usize,
-        &items[statement..signature],
-        &items[signature..next],
-    )
+    let own = item.signature - end.len();
+    &items[own..item.signature] == end
+        && submission_slots::signature_genuine(
+            roster,
+            item.replica as usize,
+            &items[item.statement..item.signature],
+            &items[item.signature..item.next],
+        )
 }
 
 // Offers an item to each statement: its place is put down where there is none, and it is a copy.
@@ -123,22 +103,14 @@ fn offer(
         rows.new }
     ensures room { length rows.new ≡ length rows.old }
 {
-    let signature = item.signature;
-    let count = sought.count;
-    let k = item.replica;
-    let column = k as usize - 1;
-    let mut m = 0;
-    while m < count {
-        let head = sought.head;
-        let tail = sought.tail;
+    let column = item.replica as usize - 1;
+    for m in 0..sought.count {
         let cell = REPLICAS_MOST * m + column;
-        let from = head + tail * m;
-        let end = from + tail;
-        m += 1;
-        if rows[cell] == 0 {
-            if is_copy(roster, items, item, &wanted[from..end]) {
-                rows[cell] = signature;
-            }
+        let from = sought.head + sought.tail * m;
+        let end = from + sought.tail;
+        let free = rows[cell] == 0;
+        if free && is_copy(roster, items, item, &wanted[from..end]) {
+            rows[cell] = item.signature;
         }
     }
 }
@@ -152,12 +124,10 @@ pub fn find_copies(roster: &[u8], items: &[u8], wanted: &[u8], sought: Sought, r
         rows.new }
     ensures room { length rows.new ≡ length rows.old }
 {
-    let count = sought.count;
-    clear(rows, REPLICAS_MOST * count);
+    clear(rows, REPLICAS_MOST * sought.count);
     let mut at = 0;
     while at < items.len() {
-        let ItemReading::Read(item) = assembly_items::read(items, at, sought.width, sought.size)
-        else {
+        let Some(item) = assembly_items::read(items, at, sought.width, sought.size) else {
             return;
         };
         at = item.next;

@@ -10,13 +10,8 @@ pub fn mask_of(places: &[usize], n: usize) -> u16
     ensures { (S : ℕ) (items : List ℕ) → result ≡ signers_of (copies_at S items n places.now) }
 {
     let mut mask = 0;
-    let mut k = n;
-    while 0 < k {
-        k -= 1;
-        mask = 2 * mask;
-        if places[k] != 0 {
-            mask += 1;
-        }
+    for k in (0..n).rev() {
+        mask = 2 * mask + u16::from(places[k] != 0);
     }
     mask
 }

@@ -15,9 +15,6 @@ pub fn put_row(table: &mut [usize], at: usize, first: usize, stamp: usize, place
 {
     table[at] = first;
     table[at + STAMP_AT] = stamp;
-    let mut k = 0;
-    while k < REPLICAS_MOST {
-        table[at + PLACES_AT + k] = places[k];
-        k += 1;
-    }
+    let from = at + PLACES_AT;
+    table[from..from + REPLICAS_MOST].copy_from_slice(&places[..REPLICAS_MOST]);
 }

@@ -1,5 +1,5 @@
 -- The items of a bag by the places where they begin: a walk that goes from the end of one to the next has read all of them where the bag ends,
--- and in a bag that does not end inside an item no reading is refused.
+-- and in a bag that does not end inside an item every item is read.
 -- Assumes nothing.
 use mathlib.Core.Path.{◌≡◌, refl, sym, ap, ◌∙◌}
 use mathlib.Core.Bool.{true, false}
@@ -11,13 +11,13 @@ use borrow.Author.Tests.{ltb-true, ltb-false, leb-true, leb-false, lt-ltb, le-lt
 use lib.Dec.{ltb, leb}
 use lib.ListN.{length, get_or, take, drop, length-drop, drop_of_length-le, get_or-eq_default}
 use lib.Seq.{drop-drop, get_or-drop}
+use Rattle.std.specs.Prelude.{Some, None}
 use Rattle.words.specs.BigEndian.{number_at}
 use Rattle.refusal.specs.Checks.{all}
 use Rattle.refusal.proofs.Laws.{look}
 use Rattle.assembly.specs.Items.{Item, statement_size, first_size, item_size, first_item, items_after, items_of, whole_after, whole}
 use Rattle.assembly.proofs.Whole.{whole-first, items-next as next-items, whole-next as next-whole}
 use Rattle.assembly_items.specs.declared.ItemPlace.{ItemPlace}
-use Rattle.assembly_items.specs.declared.ItemReading.TheVariants.{Read, Refused}
 use Rattle.assembly_items.specs.Reader.{item_reading, item_of}
 
 not-zero : (n : ℕ) → (n ≡ 0 → ⊥) → 0 < n
@@ -46,29 +46,29 @@ module _ (w S : ℕ) (item_bytes : List ℕ) (at : ℕ) where
   abbrev place_at : ItemPlace
   place_at = record { replica = number_at 2 item_bytes at; statement = at + 2; signature = at + 2 + size_at; next = at + 2 + size_at + S }
 
-  read : 0 < size_at → at + 2 + size_at + S ≤ length item_bytes → Read place_at ≡ item_reading w S item_bytes at
+  read : 0 < size_at → at + 2 + size_at + S ≤ length item_bytes → Some place_at ≡ item_reading w S item_bytes at
   unfolding item_reading all
   read kind room = rw (lt-ltb _ _ kind, le-leb _ _ room)
 
   -- from what the code has read and computed
   pub reads : {replica size : ℕ} → replica ≡ number_at 2 item_bytes at → size ≡ size_at → (size ≡ 0 → ⊥) → at + 2 + size + S ≤ length item_bytes
-      → Read (record { replica = replica; statement = at + 2; signature = at + 2 + size; next = at + 2 + size + S }) ≡ item_reading w S item_bytes at
+      → Some (record { replica = replica; statement = at + 2; signature = at + 2 + size; next = at + 2 + size + S }) ≡ item_reading w S item_bytes at
   reads number size kind room = rw (number, size) (read (rw size at (not-zero _ kind)) (rw size at room))
 
-  pub no_kind : size_at ≡ 0 → Refused ≡ item_reading w S item_bytes at
+  pub no_kind : size_at ≡ 0 → None ≡ item_reading w S item_bytes at
   unfolding item_reading all
   no_kind e = rw (le-ltb 0 size_at (omega (arith, e)))
 
   -- there is no kind byte
-  pub no_byte : length item_bytes ≤ at + 2 → Refused ≡ item_reading w S item_bytes at
+  pub no_byte : length item_bytes ≤ at + 2 → None ≡ item_reading w S item_bytes at
   unfolding statement_size
   no_byte h = no_kind (rw (get_or-eq_default item_bytes 0 h))
 
-  pub cut_off : length item_bytes < at + 2 + size_at + S → Refused ≡ item_reading w S item_bytes at
+  pub cut_off : length item_bytes < at + 2 + size_at + S → None ≡ item_reading w S item_bytes at
   unfolding item_reading all
   cut_off h = ⊎_elim (λ (e : ltb 0 size_at ≡ true). rw (e, lt-leb _ _ h)) (λ (e : ltb 0 size_at ≡ false). rw e) (look (ltb 0 size_at))
 
-  read-says : {i : ItemPlace} → item_reading w S item_bytes at ≡ Read i → (i ≡ place_at) × (0 < size_at) × (at + 2 + size_at + S ≤ length item_bytes)
+  read-says : {i : ItemPlace} → item_reading w S item_bytes at ≡ Some i → (i ≡ place_at) × (0 < size_at) × (at + 2 + size_at + S ≤ length item_bytes)
   read-says e =
       ⊎_elim
       (λ (h : ltb 0 size_at ≡ true).
@@ -84,7 +84,7 @@ module _ (w S : ℕ) (item_bytes : List ℕ) (at : ℕ) where
       (look (ltb 0 size_at))
 
   -- where its parts stand
-  pub stands : {i : ItemPlace} → item_reading w S item_bytes at ≡ Read i → Standing S item_bytes at i
+  pub stands : {i : ItemPlace} → item_reading w S item_bytes at ≡ Some i → Standing S item_bytes at i
   stands e =
       let says = read-says e in
       rw says.0 (record { statement = refl; signature = omega (arith, says.1); next = refl; inside = says.2 })
@@ -116,13 +116,13 @@ module _ (w S : ℕ) (item_bytes : List ℕ) (at : ℕ) where
     nonempty : 0 < length (drop at item_bytes)
     nonempty = rw length-drop (omega arith)
 
-    whole-read : whole w S (drop at item_bytes) ≡ true → Read place_at ≡ item_reading w S item_bytes at
+    whole-read : whole w S (drop at item_bytes) ≡ true → Some place_at ≡ item_reading w S item_bytes at
     whole-read e =
         let says = whole-first w S (drop at item_bytes) nonempty e in
         read (rw size-here at says.0) (omega (arith, says.1, end-here, length-drop at item_bytes))
 
     -- what is whole is read
-    pub refused-broken : item_reading w S item_bytes at ≡ Refused → whole w S (drop at item_bytes) ≡ false
+    pub refused-broken : item_reading w S item_bytes at ≡ None → whole w S (drop at item_bytes) ≡ false
     refused-broken e =
         ⊎_elim
         (λ (h : whole w S (drop at item_bytes) ≡ true).
@@ -131,7 +131,7 @@ module _ (w S : ℕ) (item_bytes : List ℕ) (at : ℕ) where
         (look (whole w S (drop at item_bytes)))
 
     -- the item, and what comes after it
-    module _ {i : ItemPlace} (e : item_reading w S item_bytes at ≡ Read i) where
+    module _ {i : ItemPlace} (e : item_reading w S item_bytes at ≡ Some i) where
       pub items-next : items_of w S (drop at item_bytes) ≡ item_of item_bytes i ∷ items_of w S (drop i.next item_bytes)
       items-next =
           let says = read-says e in

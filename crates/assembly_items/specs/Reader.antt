@@ -1,21 +1,19 @@
 -- The items of a bag as the code reads them: where each part stands.
-use Rattle.std.specs.Prelude.{cond, List, [], ◌∷◌, ℕ, ◌+◌, ◌-◌, leb, ltb, length, get_or, take, drop}
+use Rattle.std.specs.Prelude.{Option, Some, None, cond, List, [], ◌∷◌, ℕ, ◌+◌, ◌-◌, leb, ltb, length, get_or, take, drop}
 use Rattle.words.specs.BigEndian.{number_at}
 use Rattle.refusal.specs.Checks.{all}
 use Rattle.assembly.specs.Items.{Item, statement_size}
 use Rattle.assembly_items.specs.declared.ItemPlace.{ItemPlace}
-use Rattle.assembly_items.specs.declared.ItemReading.{ItemReading}
-use Rattle.assembly_items.specs.declared.ItemReading.TheVariants.{Read, Refused}
 
--- the item at a place, or a refusal where its kind is none or the bag ends inside it
-unfoldable pub item_reading : ℕ → ℕ → List ℕ → ℕ → ItemReading
+-- the item at a place; none where its kind is none or the bag ends inside it
+unfoldable pub item_reading : ℕ → ℕ → List ℕ → ℕ → Option ItemPlace
 item_reading w S item_bytes at =
     let size = statement_size w (get_or item_bytes (at + 2) 0) in
     let signature = at + 2 + size in
     let next = signature + S in
     let item : ItemPlace =
     record { replica = number_at 2 item_bytes at; statement = at + 2; signature = signature; next = next } in
-    cond (all (ltb 0 size ∷ leb next (length item_bytes) ∷ [])) (Read item) Refused
+    cond (all (ltb 0 size ∷ leb next (length item_bytes) ∷ [])) (Some item) None
 
 -- what the item says
 unfoldable pub item_of : List ℕ → ItemPlace → Item

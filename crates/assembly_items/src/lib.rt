@@ -1,13 +1,15 @@
-// The items of a bag (document 02, W3): the reader, which gives where an item's parts stand, or a refusal;
+// The items of a bag (document 02, W3): the reader, which gives where an item's parts stand, if it is one;
 // and check 19. Over the term's width and the signature's length.
 #![tactic(auto)]
 
-ghost use Rattle.std.specs.Prelude.{◌≡◌, ◌≤◌, length};
+ghost use Rattle.std.specs.Prelude.{◌≡◌, ◌≤◌, ◌<◌, length, MatchOption};
 ghost use Rattle.words.specs.Widths.{width_most};
 ghost use Rattle.roster.specs.Sizes.{signature_most};
 ghost use Rattle.assembly.specs.Items as paper;
 ghost use Rattle.submission.specs.Sizes.{statement_most};
 ghost use Rattle.assembly_items.specs.Reader.{item_reading};
+
+use log_chain::Kind;
 
 // Where the statement stands in an item, after the replica's number.
 const STATEMENT_AT: usize = 2;
@@ -21,50 +23,41 @@ pub struct ItemPlace {
     pub next: usize,
 }
 
-// An item that was read.
-#[derive(Clone, Copy)]
-pub enum ItemReading {
-    Read(ItemPlace),
-    Refused,
-}
-
-// The bytes of a statement by its kind; 0 for no kind.
-fn statement_size(width: usize, kind: u8) -> usize
+// The bytes of a statement by its kind; none for no kind.
+fn statement_size(width: usize, kind: u8) -> Option<usize>
     requires { width ≤ width_most }
-    ensures { (result ≡ paper.statement_size width kind) × (result ≤ statement_most) }
+    ensures { MatchOption result (paper.statement_size width kind ≡ 0)
+        (λ s. (s ≡ paper.statement_size width kind) × (0 < s) × (s ≤ statement_most)) }
 {
     let name = log_chain::NAME_AT + roster::NAME_SIZE;
-    match kind {
-        1 => name + width + log_chain::INDEX_SIZE + log_chain::POINTER_SIZE,
-        2 => name + width + log_chain::INDEX_SIZE + log_chain::POINTER_SIZE,
-        3 => name + submission::ballot_size(width),
-        _ => 0,
-    }
+    let Ok(kind) = Kind::try_from(kind) else {
+        return None;
+    };
+    let rest = match kind {
+        Kind::Stamp | Kind::Receipt => width + log_chain::INDEX_SIZE + log_chain::POINTER_SIZE,
+        Kind::Vote => submission::ballot_size(width),
+    };
+    Some(name + rest)
 }
 
-// The item at a place; or a refusal, where its kind is none or the bag ends inside it.
-pub fn read(items: &[u8], at: usize, width: usize, size: usize) -> ItemReading
+// The item at a place; none where its kind is none or the bag ends inside it.
+pub fn read(items: &[u8], at: usize, width: usize, size: usize) -> Option<ItemPlace>
     requires { (at ≤ length items.now) × (width ≤ width_most) × (size ≤ signature_most) }
     ensures { result ≡ item_reading width size items.now at }
 {
-    let left = items.len() - at;
-    if left <= STATEMENT_AT {
-        return ItemReading::Refused;
-    }
     let statement = at + STATEMENT_AT;
-    let bytes = statement_size(width, items[statement]);
-    if bytes == 0 {
-        return ItemReading::Refused;
+    let kind = *items.get(statement)?;
+    let signature = statement + statement_size(width, kind)?;
+    let next = signature + size;
+    if items.len() < next {
+        return None;
     }
-    if left < STATEMENT_AT + bytes + size {
-        return ItemReading::Refused;
-    }
-    let signature = statement + bytes;
-    ItemReading::Read(ItemPlace {
-        replica: words::u16_at(items, at),
-        statement: statement,
-        signature: signature,
-        next: signature + size,
+    let replica = words::u16_at(items, at);
+    Some(ItemPlace {
+        replica,
+        statement,
+        signature,
+        next,
     })
 }
 
@@ -75,7 +68,7 @@ pub fn items_whole(items: &[u8], width: usize, size: usize) -> bool
 {
     let mut at = 0;
     while at < items.len() {
-        let ItemReading::Read(item) = read(items, at, width, size) else {
+        let Some(item) = read(items, at, width, size) else {
             return false;
         };
         at = item.next;

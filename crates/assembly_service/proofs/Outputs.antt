@@ -6,6 +6,7 @@ use mathlib.Core.Option.{some, none}
 use Prim.Native.Nat.{ℕ, ◌/◌, ◌≤◌, ◌<◌}
 use native.Mathlib.Omega.{arith}
 use lib.ListN.{length}
+use Rattle.std.specs.Prelude.{Option, Some, None}
 use Rattle.words.specs.Over.{over}
 use Rattle.roster.specs.Roster.{replicas, signature_size}
 use Rattle.log_chain.specs.Log.{version1}
@@ -16,8 +17,6 @@ use Rattle.assembly.proofs.Answers.{none-led, output-short, output-enough, accep
 use Rattle.assembly_writer.specs.declared.Plan.{Plan}
 use Rattle.assembly_writer.specs.Written.{bytes_taken, Planned}
 use Rattle.assembly_service.specs.Taken.{Checked, plan_of, bytes_if, PlannedIf, RowsTaken}
-use Rattle.assembly_service.specs.declared.Leaders.{Leaders}
-use Rattle.assembly_service.specs.declared.Leaders.TheVariants.{All, Missing}
 use Rattle.assembly_service.proofs.Answers.{checked-decides, refusal-answers}
 
 -- the plan as the code has it
@@ -27,9 +26,9 @@ unfolding plan_of form_of version1
 plan_given roster log size n each leaders s k e =
     λ i. record { width = 4; size = s i; replicas = k i; records = length log / e i; leaders = leaders }
 
-module _ (roster log item_bytes output : List ℕ) (ok : Checked roster log item_bytes) (votes taken : List ℕ) (r : Leaders)
+module _ (roster log item_bytes output : List ℕ) (ok : Checked roster log item_bytes) (votes taken : List ℕ) (r : Option ℕ)
     (rows : RowsTaken roster log item_bytes votes taken r) where
-  pub missing-answers : {number size : ℕ} → r ≡ Missing → (number ≡ 20) × (size ≡ 0)
+  pub missing-answers : {number size : ℕ} → r ≡ None → (number ≡ 20) × (size ≡ 0)
       → (number ≡ assemble_number roster log item_bytes output)
       × ((size ≡ assemble_length roster log item_bytes output) × (output ≡ output_after roster log item_bytes output))
   unfolding bytes_if
@@ -37,7 +36,7 @@ module _ (roster log item_bytes output : List ℕ) (ok : Checked roster log item
       let made : assembled roster log item_bytes ≡ none = rows.same ∙ ap (bytes_if roster log item_bytes taken) e in
       refusal-answers roster log item_bytes output given (checked-decides roster log item_bytes output ok (sym (none-led roster log item_bytes output made))) (λ z. omega (arith, z))
 
-  module _ (leaders : ℕ) (plan : Plan) (e : r ≡ All leaders) (p : plan ≡ plan_of roster log leaders) where
+  module _ (leaders : ℕ) (plan : Plan) (e : r ≡ Some leaders) (p : plan ≡ plan_of roster log leaders) where
     pub plan-held : Planned roster log item_bytes votes plan taken
     unfolding PlannedIf
     plan-held = subst (λ q. Planned roster log item_bytes votes q taken) (sym p) (subst (PlannedIf roster log item_bytes votes taken) e rows.planned)

@@ -1,6 +1,6 @@
 -- What the checks leave known, and what the rows that were taken stand for.
-use Rattle.std.specs.Prelude.{◌≡◌, true, List, ℕ, ◌/◌, length}
-use Rattle.std.proofs.Math.Option.{Option, some, none}
+use Rattle.std.specs.Prelude.{Option, Some, None, ◌≡◌, true, List, ℕ, ◌/◌, length}
+use Rattle.std.proofs.Math.Option as maybe
 use Rattle.roster.specs.Roster.{replicas, signature_size, roster_number}
 use Rattle.log_chain.specs.Records.{record_size}
 use Rattle.log_chain.specs.Ends.{rising}
@@ -9,8 +9,6 @@ use Rattle.assembly.specs.Items.{whole}
 use Rattle.assembly.specs.Assembly.{log_counted, records_given, assembled}
 use Rattle.assembly_writer.specs.declared.Plan.{Plan}
 use Rattle.assembly_writer.specs.Written.{bytes_taken, Planned}
-use Rattle.assembly_service.specs.declared.Leaders.{Leaders}
-use Rattle.assembly_service.specs.declared.Leaders.TheVariants.{All, Missing}
 
 -- ---- the checks
 
@@ -35,18 +33,18 @@ plan_of roster log leaders =
     }
 
 -- the bytes of the rows, if every term has a leader
-unfoldable pub bytes_if : List ℕ → List ℕ → List ℕ → List ℕ → Leaders → Option (List ℕ)
-bytes_if roster log item_bytes taken (All count) =
-    some (bytes_taken roster log item_bytes (plan_of roster log count) taken)
-bytes_if roster log item_bytes taken Missing = none
+unfoldable pub bytes_if : List ℕ → List ℕ → List ℕ → List ℕ → Option ℕ → maybe.Option (List ℕ)
+bytes_if roster log item_bytes taken (Some count) =
+    maybe.some (bytes_taken roster log item_bytes (plan_of roster log count) taken)
+bytes_if roster log item_bytes taken None = maybe.none
 
 -- and they can be written
-unfoldable pub PlannedIf : List ℕ → List ℕ → List ℕ → List ℕ → List ℕ → Leaders → Type 0
-PlannedIf roster log item_bytes votes taken (All count) =
+unfoldable pub PlannedIf : List ℕ → List ℕ → List ℕ → List ℕ → List ℕ → Option ℕ → Type 0
+PlannedIf roster log item_bytes votes taken (Some count) =
     Planned roster log item_bytes votes (plan_of roster log count) taken
-PlannedIf roster log item_bytes votes taken Missing = Unit {0}
+PlannedIf roster log item_bytes votes taken None = Unit {0}
 
 -- they are what is assembled
-pub record RowsTaken (roster log item_bytes votes taken : List ℕ) (r : Leaders) : Type 0 where
+pub record RowsTaken (roster log item_bytes votes taken : List ℕ) (r : Option ℕ) : Type 0 where
   pub same : assembled roster log item_bytes ≡ bytes_if roster log item_bytes taken r
   pub planned : PlannedIf roster log item_bytes votes taken r

@@ -30,13 +30,6 @@ const STAMPS_ROOM: usize = assembly_terms::STAMP_HEAD + PLACE_SIZE * LEADER_MOST
 // The rows: one for each term, and one for the commit.
 const TAKEN_ROOM: usize = TAKEN_SIZE * (LEADER_MOST + 1);
 
-// The number of terms, each with a leader; or some term has none.
-#[derive(Clone, Copy)]
-enum Leaders {
-    All(usize),
-    Missing,
-}
-
 // 8: whether a log has whole records, at most 4,096 of them, and at most 64 distinct terms.
 fn log_counted(log: &[u8], width: usize) -> bool
     requires { width ≤ width_most }
@@ -94,7 +87,8 @@ fn take_commit(
     assembly_commit::find_commit(roster, log, items, widths, row);
 }
 
-// Takes what the submission needs from the bag: fills the tables, and puts down the rows.
+// Takes what the submission needs from the bag: fills the tables, and puts down the rows. Gives the number of
+// terms; none where some term has no leader.
 fn take_rows(
     roster: &[u8],
     log: &[u8],
@@ -102,7 +96,7 @@ fn take_rows(
     votes: &mut [u8],
     stamps: &mut [u8],
     taken: &mut [usize],
-) -> Leaders
+) -> Option<usize>
     requires { Checked roster.now log.now items.now
         × (votes_room (form_of roster.now).term_bytes ≤ length votes.old)
         × (stamps_room (form_of roster.now).term_bytes ≤ length stamps.old)
@@ -116,7 +110,7 @@ fn take_rows(
     let count = assembly_terms::put_wanted(roster, log, width, records, votes, stamps);
     let terms = Terms { width, size, count };
     if !assembly_choice::choose(roster, items, votes, stamps, terms, taken) {
-        return Leaders::Missing;
+        return None;
     }
     let widths = LogSizes {
         width,
@@ -124,7 +118,7 @@ fn take_rows(
         records,
     };
     take_commit(roster, log, items, widths, taken, TAKEN_SIZE * count);
-    Leaders::All(count)
+    Some(count)
 }
 
 // Assembles what the checks have let through.
@@ -143,8 +137,7 @@ fn assemble_checked(roster: &[u8], log: &[u8], items: &[u8], output: &mut [u8]) 
     let mut votes = [0u8; VOTES_ROOM];
     let mut stamps = [0u8; STAMPS_ROOM];
     let mut taken = [0usize; TAKEN_ROOM];
-    let Leaders::All(leaders) = take_rows(roster, log, items, &mut votes, &mut stamps, &mut taken)
-    else {
+    let Some(leaders) = take_rows(roster, log, items, &mut votes, &mut stamps, &mut taken) else {
         return written::refused(20);
     };
     let plan = Plan {
@@ -152,7 +145,7 @@ fn assemble_checked(roster: &[u8], log: &[u8], items: &[u8], output: &mut [u8]) 
         size: roster::signature_size(roster),
         replicas: roster::replicas(roster),
         records: log.len() / log_chain::record_size(TERM_SIZE),
-        leaders: leaders,
+        leaders,
     };
     if output.len() < assembly_writer::sizes::written_size(log, plan, &taken) {
         return written::refused(21);

@@ -59,12 +59,9 @@ fn put_signatures(out: &mut [u8], items: &[u8], size: usize, n: usize, places: &
         ≡ over (signatures_at size items.now n places.now) out.old }
 {
     let mut at = 0;
-    let mut k = 0;
-    while k < n {
+    for k in 0..n {
         let rest = &mut out[at..];
-        let written = put_signature(rest, items, size, places[k]);
-        at += written;
-        k += 1;
+        at += put_signature(rest, items, size, places[k]);
     }
     at
 }
@@ -114,11 +111,9 @@ fn put_leaders(out: &mut [u8], items: &[u8], votes: &[u8], plan: Plan, taken: &[
         ≡ over (leaders_part items.now plan votes.now taken.now)
         out.old }
 {
-    let leaders = plan.leaders;
     let tail = assembly_terms::vote_tail(plan.width);
     let mut at = 0;
-    let mut t = 0;
-    while t < leaders {
+    for t in 0..plan.leaders {
         let vote = assembly_terms::VOTE_HEAD + tail * t;
         let vote_end = vote + tail;
         let row = TAKEN_SIZE * t;
@@ -132,7 +127,6 @@ fn put_leaders(out: &mut [u8], items: &[u8], votes: &[u8], plan: Plan, taken: &[
             plan,
         );
         at += size;
-        t += 1;
     }
     at
 }
@@ -145,15 +139,10 @@ fn put_stamps(out: &mut [u8], items: &[u8], plan: Plan, taken: &[usize]) -> usiz
     ensures bytes { out.new
         ≡ over (stamps_part items.now plan taken.now) out.old }
 {
-    let leaders = plan.leaders;
-    let size = plan.size;
     let mut at = 0;
-    let mut t = 0;
-    while t < leaders {
+    for t in 0..plan.leaders {
         let rest = &mut out[at..];
-        let written = put_signature(rest, items, size, taken[TAKEN_SIZE * t + STAMP_AT]);
-        at += written;
-        t += 1;
+        at += put_signature(rest, items, plan.size, taken[TAKEN_SIZE * t + STAMP_AT]);
     }
     at
 }
@@ -204,9 +193,9 @@ fn put_certified(
     let third = &mut out[at..];
     let commit = put_commit(third, items, &taken[row..], plan);
     PartSizes {
-        leaders: leaders,
-        stamps: stamps,
-        commit: commit,
+        leaders,
+        stamps,
+        commit,
     }
 }
 

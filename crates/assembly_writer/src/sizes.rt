@@ -33,10 +33,7 @@ fn signature_size(size: usize, place: usize) -> usize
         → result ≡ length (signature_at size items place) }
     ensures most { result ≤ signature_most }
 {
-    if place == 0 {
-        return 0;
-    }
-    size
+    if place == 0 { 0 } else { size }
 }
 
 // The bytes of the certificate and of the stamp of a row.
@@ -80,15 +77,11 @@ fn leads_size(plan: Plan, taken: &[usize]) -> usize
         + length (stamps_part items plan taken.now) }
     ensures most { result ≤ lead_most * plan.leaders }
 {
-    let leaders = plan.leaders;
     let mut at = 0;
-    let mut t = 0;
-    while t < leaders {
+    for t in 0..plan.leaders {
         let row = TAKEN_SIZE * t;
         let row_end = row + TAKEN_SIZE;
-        let lead = lead_size(&taken[row..row_end], plan);
-        at += lead;
-        t += 1;
+        at += lead_size(&taken[row..row_end], plan);
     }
     at
 }

@@ -40,12 +40,10 @@ fn put_fields(out: &mut [u8], fields: [u32; FIELD_COUNT]) -> usize
     ensures bytes { out.new ≡ over (fields_part fields) out.old }
 {
     let mut at = 0;
-    let mut i = 0;
-    while i < FIELD_COUNT {
+    for field in fields {
         let rest = &mut out[at..];
-        words::put_u32(rest, 0, fields[i]);
+        words::put_u32(rest, 0, field);
         at += FIELD_SIZE;
-        i += 1;
     }
     at
 }

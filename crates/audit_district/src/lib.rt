@@ -44,10 +44,10 @@ fn put_tail(report: &mut [u8], at: usize, shown: Shown)
     requires { at + paper.tail_size ≤ length report.old }
     ensures { report.new ≡ sets report.old at (paper.tail_bytes shown) }
 {
-    let fork = shown.fork;
+    let (lower, higher) = shown.fork.map_or((0, 0), |fork| (fork.lower, fork.higher));
     words::put_u16(report, at, shown.named);
-    words::put_u8(report, at + LOWER_AT, fork.lower);
-    words::put_u8(report, at + HIGHER_AT, fork.higher);
+    words::put_u8(report, at + LOWER_AT, lower);
+    words::put_u8(report, at + HIGHER_AT, higher);
 }
 
 // Writes the report of a run that is not refused.

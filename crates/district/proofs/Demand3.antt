@@ -34,7 +34,7 @@ use Rattle.report.specs.Claims.{Differ, Fair}
 use Rattle.report.proofs.Fairness.{rows-fair}
 use Rattle.district_parts.specs.Parts.{parts}
 use Rattle.district_parts.proofs.Parts.{parts-length}
-use Rattle.district.specs.District.{Entry, accepted, Pair, pair, pairs, found, union, first_fork, shown, district_number, number_bytes, tail_bytes, district_bytes, district_after, named_among}
+use Rattle.district.specs.District.{Entry, accepted, Pair, pair, pairs, found, union, first_fork, shown, district_number, number_bytes, fork_bytes, tail_bytes, district_bytes, district_after, named_among}
 use Rattle.district.specs.Claims.{DistrictNaming, DistrictFairness}
 use Rattle.district.proofs.Judged.{numbers-length}
 use Rattle.district.proofs.Pairs.{paired, pair_of, member-entry, entry-member, part_bytes}
@@ -61,12 +61,10 @@ module _ (roster buffer lengths report : List ℕ) where
       let audited = pairs (accepted roster ss) in
       let M = number_bytes roster ss in
       let N = be 2 (union roster audited) in
-      let P = be 1 (first_fork roster audited).lower in
-      let Q = be 1 (first_fork roster audited).higher in
-      let R = drop (length (M ++ (N ++ P ++ Q))) report in
-      let apart : M ++ (N ++ P ++ Q) ++ R ≡ M ++ (N ++ (P ++ (Q ++ R))) =
-      append_assoc M (N ++ P ++ Q) R ∙ ap (λ z. M ++ z) (append_assoc (N ++ P) Q R ∙ append_assoc N P (Q ++ R)) in
-      let there : take 2 (drop (length lengths) (M ++ (N ++ P ++ Q) ++ R)) ≡ N =
+      let P = fork_bytes (first_fork roster audited) in
+      let R = drop (length (M ++ (N ++ P))) report in
+      let apart : M ++ (N ++ P) ++ R ≡ M ++ (N ++ (P ++ R)) = append_assoc M (N ++ P) R ∙ ap (λ z. M ++ z) (append_assoc N P R) in
+      let there : take 2 (drop (length lengths) (M ++ (N ++ P) ++ R)) ≡ N =
       ap (λ z. take 2 (drop (length lengths) z)) apart
       ∙ ap (take 2) (drop_at M _ (length lengths) (numbers-length roster ss ∙ parts-length lengths buffer)) ∙ take_at N _ 2 (length-be 2 (union roster audited)) in
       rw (eq-eqb _ 0 e) (ap number there ∙ number-be 2 (union roster audited) (lt_of_lt_of_le (union-lt roster audited) (lit≤ tt)))

@@ -25,8 +25,9 @@ use Rattle.forensics.specs.Findings.{fork, says, charges, leaf_charges, all_char
 use Rattle.report.specs.Figures.{sample_key, sample_roster, sample_submission}
 use Rattle.report.proofs.Premises.{three}
 use Rattle.district_parts.specs.Parts.{parts, counted, total, adds_up}
+use Rattle.std.specs.Prelude.{Option, Some}
 use Rattle.district.specs.declared.Fork.{Fork}
-use Rattle.district.specs.District.{Entry, entry, accepted_from, accepted, Pair, pair, pairs, found, union, first_fork, shown, district_number, number_bytes, tail_bytes, district_bytes, district_after}
+use Rattle.district.specs.District.{Entry, entry, accepted_from, accepted, Pair, pair, pairs, found, union, first_fork, shown, district_number, number_bytes, fork_bytes, tail_bytes, district_bytes, district_after}
 
 -- number and buffer afterwards, from a report of so many bytes of 9
 ran : List ℕ → List ℕ → List ℕ → ℕ → List ℕ
@@ -38,7 +39,7 @@ unwritten number room = number ∷ replicate room 9
 
 -- two empty logs with a submission of no bytes between them: its own number is 5, nobody is named, no pair forks, and two bytes are kept
 written : ran three (sample_submission ++ sample_submission) (44 ∷ 0 ∷ 44 ∷ []) 9 ≡ 0 ∷ (0 ∷ 5 ∷ 0 ∷ [] ++ replicate 4 0 ++ (9 ∷ 9 ∷ []))
-unfolding three ran district_number district_after district_bytes number_bytes tail_bytes over first parts counted total sum adds_up entry accepted_from accepted pair pairs found union first_fork
+unfolding three ran district_number district_after district_bytes number_bytes tail_bytes fork_bytes over first parts counted total sum adds_up entry accepted_from accepted pair pairs found union first_fork
     shown sample_key sample_roster sample_submission found_in findings fork committed committed_by differ_at rows_from all_charges leaf_charges uses charges says lowest mask_of bit be number number_at same flat_map all every check
     refusal cluster replicas key_of tree_type one_time_type every_replica sized typed single roster_number version1 rising name word record_count leader_count distance version runs runs_after
     leads leads_of slots receipts_of view laid_out record_size records_of certificates certificates_end stamps_at leaders_from stamps_from commit_from commit_of sized_submission versioned named
@@ -59,10 +60,10 @@ every_two a b c = refl
 
 -- of two pairs that fork the first by position stays, whatever their indexes; a pair that does not fork is passed over
 module _ (roster : List ℕ) (p q : Pair) where
-  own : Fork
-  own = record { index = (found roster p).fork; lower = p.lower.position; higher = p.higher.position }
+  own : Option Fork
+  own = Some (record { index = (found roster p).fork; lower = p.lower.position; higher = p.higher.position })
 
-  own-or-later : Bool → Fork
+  own-or-later : Bool → Option Fork
   own-or-later none = cond none (first_fork roster (q ∷ [])) own
 
   first-stays : ((found roster p).fork ≡ 0 → ⊥) → ((found roster q).fork ≡ 0 → ⊥) → first_fork roster (p ∷ q ∷ []) ≡ own
@@ -74,6 +75,6 @@ module _ (roster : List ℕ) (p q : Pair) where
   passed_over h = ap own-or-later (eq-eqb (found roster p).fork 0 h)
 
 -- the tail: the union of two bytes, the lower position, the higher
-tail : tail_bytes (record { named = 258; fork = record { index = 7; lower = 3; higher = 5 } }) ≡ 1 ∷ 2 ∷ 3 ∷ 5 ∷ []
-unfolding tail_bytes be
+tail : tail_bytes (record { named = 258; fork = Some (record { index = 7; lower = 3; higher = 5 }) }) ≡ 1 ∷ 2 ∷ 3 ∷ 5 ∷ []
+unfolding tail_bytes fork_bytes be
 tail = refl

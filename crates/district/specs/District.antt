@@ -1,7 +1,7 @@
 -- The audit of a district (document 02, W1): up to nine submissions end to end in one buffer, each judged by
 -- itself, and every pair of accepted ones audited. The number, and every byte of the report buffer
 -- afterwards.
-use Rattle.std.specs.Prelude.{cond, ℕ, suc, ◌+◌, eqb, leb, length}
+use Rattle.std.specs.Prelude.{cond, ℕ, suc, ◌+◌, eqb, leb, length, Option, Some, None}
 use mathlib.Core.List.{List, [], ◌∷◌, ◌++◌, map, flat_map}
 use Rattle.std.specs.Int.Bits.{bit_or}
 use Rattle.words.specs.BigEndian.{be, number_at}
@@ -61,13 +61,13 @@ unfoldable pub union : List ℕ → List Pair → ℕ
 union roster [] = 0
 union roster (p ∷ later) = bit_or (mask_of (found roster p).rows) (union roster later)
 
--- "the first pair that forks (by lower, then higher position, from 1), .. 0 and 0 if none"
-unfoldable pub first_fork : List ℕ → List Pair → Fork
-first_fork roster [] = record { index = 0; lower = 0; higher = 0 }
+-- "the first pair that forks (by lower, then higher position, from 1)"
+unfoldable pub first_fork : List ℕ → List Pair → Option Fork
+first_fork roster [] = None
 first_fork roster (p ∷ later) =
     let index = (found roster p).fork in
     cond (eqb index 0) (first_fork roster later)
-    (record { index = index; lower = p.lower.position; higher = p.higher.position })
+    (Some (record { index = index; lower = p.lower.position; higher = p.higher.position }))
 
 unfoldable pub shown : List ℕ → List Pair → Shown
 shown roster ps = record { named = union roster ps; fork = first_fork roster ps }
@@ -92,9 +92,14 @@ district_number roster buffer lengths report =
 unfoldable pub number_bytes : List ℕ → List (List ℕ) → List ℕ
 number_bytes roster submissions = flat_map (λ s. be 1 (validate roster s)) submissions
 
--- "The report then has the union of named boards (u16) and the first pair that forks .., one byte each"
+-- "one byte each, or 0 and 0 if none"
+unfoldable pub fork_bytes : Option Fork → List ℕ
+fork_bytes None = be 1 0 ++ be 1 0
+fork_bytes (Some f) = be 1 f.lower ++ be 1 f.higher
+
+-- "The report then has the union of named boards (u16) and the first pair that forks .."
 unfoldable pub tail_bytes : Shown → List ℕ
-tail_bytes s = be 2 s.named ++ be 1 s.fork.lower ++ be 1 s.fork.higher
+tail_bytes s = be 2 s.named ++ fork_bytes s.fork
 
 unfoldable pub district_bytes : List ℕ → List (List ℕ) → List ℕ
 district_bytes roster submissions =

@@ -9,7 +9,7 @@ pub const LOWER_AT: usize = 2;
 
 pub const HIGHER_AT: usize = 3;
 
-// A fork: its index, and the positions of its pair, from 1. All are 0 where there is none.
+// A fork: its index, and the positions of its pair, from 1.
 #[derive(Clone, Copy)]
 pub struct Fork {
     pub index: u32,
@@ -17,9 +17,9 @@ pub struct Fork {
     pub higher: u32,
 }
 
-// What pairs show: the union of the replicas named, and the first pair that forks.
+// What pairs show: the union of the replicas named, and the first pair that forks, if one does.
 #[derive(Clone, Copy)]
 pub struct Shown {
     pub named: u16,
-    pub fork: Fork,
+    pub fork: Option<Fork>,
 }

@@ -6,8 +6,12 @@ use Prim.Native.Nat.{ℕ, suc, ◌-◌, ◌≤◌, ◌<◌}
 use native.Mathlib.Omega.{arith}
 use lib.ListN.{length, drop, get_or, length-map, length-take, drop_of_length-le, get_or-map}
 use lib.Seq.{drop-cons, get_or-take}
+use borrow.Author.Tests.{ne_eqb}
+use Rattle.std.specs.Prelude.{Option, Some, None, IfSome, unwrap_or, option_map}
+use Rattle.std.specs.Option.{option_or}
 use Rattle.words.proofs.Members.{mem_at}
 use Rattle.forensics.specs.Findings.{Findings}
+use Rattle.district.specs.declared.Fork.{Fork}
 use Rattle.district.specs.declared.Shown.{Shown}
 use Rattle.district.specs.District.{Entry, pair, pairs, found, union, first_fork, shown}
 use Rattle.district_pairs.specs.declared.Part.{Part}
@@ -41,6 +45,17 @@ module _ (e : Entries) (whole : e.count ≤ length e.parts) where
         drop-cons (entries_of buffer e) i (entry_of buffer d) (omega (arith, entries-length))
         ∙ ap (λ x. x ∷ drop (suc i) (entries_of buffer e))
         (get_or-map (entry_of buffer) (parts_of e) i d ∙ ap (entry_of buffer) (get_or-take e.count e.parts i d h))
+
+-- ---- the fork of a pair before a later one
+
+abbrev pub own_fork : ℕ → ℕ → ℕ → Fork
+own_fork lower higher index = record { index = index; lower = lower; higher = higher }
+
+pub own_or_later : (o : Option ℕ) (lower higher : ℕ) (later : Option Fork) {own : Option Fork} → IfSome o (λ index. 0 < index)
+    → own ≡ option_map (own_fork lower higher) o → option_or own later ≡ sooner (unwrap_or o 0) lower higher later
+unfolding sooner
+own_or_later None lower higher later above e = rw e
+own_or_later (Some index) lower higher later above e = rw (e, ne_eqb index 0 (λ z. absurd (omega (arith, z, above))))
 
 -- ---- what they show
 

@@ -1,6 +1,6 @@
 -- The accepted submissions as the code holds them: where each stands in the buffer, its position, and its
 -- pointers.
-use Rattle.std.specs.Prelude.{◌≡◌, cond, ℕ, suc, ◌+◌, ◌≤◌, eqb, length, take, drop}
+use Rattle.std.specs.Prelude.{◌≡◌, cond, ℕ, suc, ◌+◌, ◌≤◌, eqb, length, take, drop, Option, Some}
 use mathlib.Core.List.{List, [], ◌∷◌, map, Memᴰ}
 use Rattle.std.specs.Int.Bits.{bit_or}
 use Rattle.roster.specs.Roster.{roster_number}
@@ -55,14 +55,15 @@ pub record Held (roster buffer : List ℕ) (e : Entries) : Type 0 where
 
 -- ---- what they show
 
--- the fork of a pair, or where it has none that of the later ones
-unfoldable pub sooner : Fork → Fork → Fork
-sooner f later = cond (eqb f.index 0) later f
+-- the fork of a pair of two positions, or where it has none that of the later ones
+unfoldable pub sooner : ℕ → ℕ → ℕ → Option Fork → Option Fork
+sooner index lower higher later =
+    cond (eqb index 0) later (Some (record { index = index; lower = lower; higher = higher }))
 
 -- the findings of a pair of two positions, before what later pairs show
 unfoldable pub before : ℕ → ℕ → Findings → Shown → Shown
 before lower higher f later =
     record {
       named = bit_or (mask_of f.rows) later.named;
-      fork = sooner (record { index = f.fork; lower = lower; higher = higher }) later.fork;
+      fork = sooner f.fork lower higher later.fork;
     }

@@ -2,7 +2,7 @@
 // position down: of the pairs that fork the first one is seen last, and stays.
 #![tactic(auto)]
 
-ghost use Rattle.std.specs.Prelude.{◌≡◌, [], ◌++◌, suc, ◌<◌, drop};
+ghost use Rattle.std.specs.Prelude.{◌≡◌, [], ◌++◌, suc, ◌<◌, drop, IfSome};
 ghost use Rattle.roster.specs.Roster.{roster_number};
 ghost use Rattle.district_parts.specs.Parts.{count_most};
 ghost use Rattle.forensics_charges.specs.Charges.{findings_of};
@@ -83,9 +83,10 @@ pub fn with_judged(
 fn audit_parts(roster: &[u8], buffer: &[u8], a: Part, b: Part) -> Findings
     requires { (roster_number roster.now ≡ 0) × inner.Fit roster.now buffer.now a
         × inner.Fit roster.now buffer.now b }
-    ensures { findings_of result
+    ensures findings { findings_of result
         ≡ paper.found roster.now (paper.pair (inner.entry_of buffer.now a)
         (inner.entry_of buffer.now b)) }
+    ensures fork { IfSome result.fork (λ index. 0 < index) }
 {
     let a_start = a.start;
     let a_end = a_start + a.size;
@@ -100,31 +101,18 @@ fn audit_parts(roster: &[u8], buffer: &[u8], a: Part, b: Part) -> Findings
     )
 }
 
-// The fork that stays: that of a pair, or where it has none that of the later ones.
-#[tactic(auto, unfolding(crate::specs::Entries::sooner))]
-fn sooner_fork(fork: Fork, later: Fork) -> Fork
-    ensures { result ≡ inner.sooner fork later }
-{
-    if fork.index == 0 {
-        return later;
-    }
-    fork
-}
-
-// What a pair of two positions shows, before later pairs.
+// What a pair of two positions shows, before later pairs: its own fork stays, where it has one.
 fn with_pair(lower: u32, higher: u32, found: Findings, later: Shown) -> Shown
+    requires { IfSome found.fork (λ index. 0 < index) }
     ensures { result ≡ inner.before lower higher (findings_of found) later }
 {
-    let rows = found.rows;
-    let named = report_rows::mask::named_mask(rows) | later.named;
-    let fork = sooner_fork(
-        Fork {
-            index: found.fork,
-            lower,
-            higher,
-        },
-        later.fork,
-    );
+    let named = report_rows::mask::named_mask(found.rows) | later.named;
+    let own = found.fork.map(|index| Fork {
+        index,
+        lower,
+        higher,
+    });
+    let fork = own.or(later.fork);
     Shown { named, fork }
 }
 
@@ -140,9 +128,7 @@ fn pairs_with(roster: &[u8], buffer: &[u8], entries: Entries, i: usize, later: S
     let parts = entries.parts;
     let a = parts[i];
     let mut shown = later;
-    let mut j = entries.count;
-    while i + 1 < j {
-        j -= 1;
+    for j in (i + 1..entries.count).rev() {
         let b = parts[j];
         let found = audit_parts(roster, buffer, a, b);
         shown = with_pair(a.position, b.position, found, shown);
@@ -159,15 +145,9 @@ pub fn pairs_shown(roster: &[u8], buffer: &[u8], entries: Entries) -> Shown
 {
     let mut shown = Shown {
         named: 0,
-        fork: Fork {
-            index: 0,
-            lower: 0,
-            higher: 0,
-        },
+        fork: None,
     };
-    let mut i = entries.count;
-    while 0 < i {
-        i -= 1;
+    for i in (0..entries.count).rev() {
         shown = pairs_with(roster, buffer, entries, i, shown);
     }
     shown

@@ -13,10 +13,7 @@ pub const COUNT_MOST: usize = 9;
 pub fn count_in_range(lengths: &[u32]) -> bool
     ensures { result ≡ paper.counted lengths.now }
 {
-    if lengths.len() < COUNT_LEAST {
-        return false;
-    }
-    lengths.len() <= COUNT_MOST
+    COUNT_LEAST <= lengths.len() && lengths.len() <= COUNT_MOST
 }
 
 // 18: whether the lengths add up to the buffer's. Each is taken from what is left, so that nothing wraps.
@@ -24,14 +21,11 @@ pub fn lengths_add_up(lengths: &[u32], buffer: &[u8]) -> bool
     ensures { result ≡ paper.adds_up lengths.now buffer.now }
 {
     let mut left = buffer.len();
-    let mut i = 0;
-    while i < lengths.len() {
-        let size = lengths[i] as usize;
-        if left < size {
+    for size in lengths {
+        let Some(rest) = left.checked_sub(*size as usize) else {
             return false;
-        }
-        left -= size;
-        i += 1;
+        };
+        left = rest;
     }
     left == 0
 }

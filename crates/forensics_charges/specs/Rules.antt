@@ -1,5 +1,5 @@
 -- Rules 1 to 4 over terms and receipts (document 01, "The report"; rule 1: document 02, W4).
-use Rattle.std.specs.Prelude.{Bool, [], ◌∷◌, ℕ, eqb, leb, ltb}
+use Rattle.std.specs.Prelude.{Bool, false, [], ◌∷◌, ℕ, eqb, leb, ltb, Option, Some, None}
 use Rattle.refusal.specs.Checks.{all}
 use Rattle.roster.specs.Masks.{signer}
 use Rattle.log_chain.specs.Ends.{staler}
@@ -12,12 +12,17 @@ use Rattle.forensics_charges.specs.declared.Receipt.{Receipt}
 unfoldable pub vote_of : Tenure → Ballot
 vote_of x =
     record {
-      candidate = x.candidate;
+      candidate = x.request.candidate;
       term = x.term;
-      last_term = x.last_term;
-      last_index = x.last_index;
-      last_pointer = x.last_pointer;
+      last_term = x.request.last_term;
+      last_index = x.request.last_index;
+      last_pointer = x.request.last_pointer;
     }
+
+-- logs differ first at an index, if at all, that is not above two others
+unfoldable pub reached : Option ℕ → ℕ → ℕ → Bool
+reached None i j = false
+reached (Some index) i j = all (leb index i ∷ leb index j ∷ [])
 
 -- for replica k
 module _ (k : ℕ) where
@@ -25,12 +30,12 @@ module _ (k : ℕ) where
   unfoldable pub two_requests : Tenure → Tenure → Bool
   two_requests x y = all (signer x.signers k ∷ signer y.signers k ∷ two_votes (vote_of x) (vote_of y) ∷ [])
 
-  -- rule 2: stamps in one term, and the logs differ first at an index (0 for none) that is not above either
-  unfoldable pub two_logs : ℕ → Tenure → Tenure → Bool
+  -- rule 2: stamps in one term, and the logs differ first at an index, if at all, that is not above either
+  unfoldable pub two_logs : Option ℕ → Tenure → Tenure → Bool
   two_logs difference x y =
       all (
-      eqb x.candidate k ∷ eqb y.candidate k ∷ eqb x.term y.term ∷
-      ltb 0 difference ∷ leb difference x.end ∷ leb difference y.end ∷ []
+      eqb x.request.candidate k ∷ eqb y.request.candidate k ∷ eqb x.term y.term ∷
+      reached difference x.end y.end ∷ []
       )
 
   -- rules 3 and 4: a receipt, and a vote of a higher term for a staler log
@@ -38,5 +43,5 @@ module _ (k : ℕ) where
   forgotten r y =
       all (
       signer r.signers k ∷ signer y.signers k ∷ ltb r.term y.term ∷
-      staler y.last_term y.last_index r.term r.index ∷ []
+      staler y.request.last_term y.request.last_index r.term r.index ∷ []
       )

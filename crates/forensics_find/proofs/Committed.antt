@@ -7,7 +7,7 @@ use Prim.Native.Nat.{ℕ, ◌*◌, ◌≤◌}
 use native.Mathlib.Omega.{arith}
 use borrow.Author.Tests.{leb-true}
 use lib.ListN.{length}
-use Rattle.std.specs.Prelude.{Some, None}
+use Rattle.std.specs.Prelude.{Option, Some, None}
 use Rattle.refusal.proofs.Laws.{all_cons}
 use Rattle.log_chain.specs.Log.{last_term}
 use Rattle.submission.specs.Trailer.{record_count}
@@ -25,7 +25,7 @@ use Rattle.forensics_charges.specs.declared.Receipt.{Receipt}
 use Rattle.forensics_charges.specs.Charges.{receipts_by, receipts}
 
 module _ (w S : ℕ) (s : List ℕ) where
-  pub no-receipts : commit_part w S s ≡ None → ◌≡◌ {A = Receipt} (record { term = 0; index = 0; signers = 0 }) (receipts (view w S s))
+  pub no-receipts : commit_part w S s ≡ None → None ≡ receipts (view w S s)
   unfolding receipts receipts_by view
   no-receipts e = rw (absent-says w S s e)
 
@@ -42,7 +42,7 @@ module _ (w S : ℕ) (s : List ℕ) where
         rw (found-says w S s e).0 (fewer_inside w _ _ index-inside (omega (arith, records-inside w S s laid)))
 
     pub some-receipts : {term : ℕ} → term ≡ last_term (records_of w c.index s)
-        → ◌≡◌ {A = Receipt} (record { term = term; index = c.index; signers = c.signers }) (receipts (view w S s))
+        → ◌≡◌ {A = Option Receipt} (Some (record { term = term; index = c.index; signers = c.signers })) (receipts (view w S s))
     unfolding receipts receipts_by view commit_numbers_at
     some-receipts h =
         let says = found-says w S s e in

@@ -29,10 +29,34 @@ module _ (w S : ℕ) (s : List ℕ) where
       let count : left ≡ suc (left - 1) = omega arith in
       ap (λ (n : ℕ). tenures_at w S s n at) count
 
+  -- so many certificates from a place on lie inside
+  pub record Inside (left at : ℕ) : Type 0 where
+    pub inside : certificates_end w S s left at ≤ trailer_at s
+
+  module _ (left at : ℕ) (x : Inside left at) (more : 0 < left) where
+    rest-inside : certificates_end w S s (left - 1) (certificate_end w S s at) ≤ trailer_at s
+    rest-inside = rw (end-first w S s left at more) at x.inside
+
+    -- the first lies inside, and so do its fields and those of the one after it
+    pub end-inside : certificate_end w S s at ≤ length s
+    end-inside = omega (arith, certificates-from w S s (left - 1) (certificate_end w S s at), rest-inside)
+
+    pub first-inside : at + fields_size w ≤ length s
+    first-inside = omega (arith, certificate_fields w S s at, certificates-from w S s (left - 1) (certificate_end w S s at), rest-inside)
+
+    pub next-inside : {next : ℕ} → next ≡ certificate_end w S s at → 0 < left - 1 → next + last_pointer_place w ≤ length s
+    unfolding ballot_size
+    next-inside {next} e h =
+        let inside : certificates_end w S s (left - 1) next ≤ trailer_at s = rw e rest-inside in
+        let rest = rw (end-first w S s (left - 1) next h) at inside in
+        omega (arith, certificate_fields w S s next, certificates-from w S s (left - 1 - 1) (certificate_end w S s next), rest)
+
+    pub inside_next : {next : ℕ} → next ≡ certificate_end w S s at → Inside (left - 1) next
+    inside_next e = record { inside = rw e rest-inside }
+
   -- f is the charges from one term, and b the lowest from all
   module _ (f : Tenure → List Charge) (b : Option Charge) where
     pub record RowsLeft (left at : ℕ) (best : Option Charge) : Type 0 where
-      pub inside : certificates_end w S s left at ≤ trailer_at s
       pub answer : least best (lowest (flat_map f (tenures_at w S s left at))) ≡ b
 
     module _ (left at : ℕ) {best : Option Charge} (x : RowsLeft left at best) where
@@ -44,23 +68,6 @@ module _ (w S : ℕ) (s : List ℕ) where
           sym (least-none best) ∙ rw none at x.answer
 
       module _ (more : 0 < left) where
-        rest-inside : certificates_end w S s (left - 1) (certificate_end w S s at) ≤ trailer_at s
-        rest-inside = rw (end-first w S s left at more) at x.inside
-
-        -- the first lies inside, and so do its fields and those of the one after it
-        pub end-inside : certificate_end w S s at ≤ length s
-        end-inside = omega (arith, certificates-from w S s (left - 1) (certificate_end w S s at), rest-inside)
-
-        pub first-inside : at + fields_size w ≤ length s
-        first-inside = omega (arith, certificate_fields w S s at, certificates-from w S s (left - 1) (certificate_end w S s at), rest-inside)
-
-        pub next-inside : {next : ℕ} → next ≡ certificate_end w S s at → 0 < left - 1 → next + last_pointer_place w ≤ length s
-        unfolding ballot_size
-        next-inside {next} e h =
-            let inside : certificates_end w S s (left - 1) next ≤ trailer_at s = rw e rest-inside in
-            let rest = rw (end-first w S s (left - 1) next h) at inside in
-            omega (arith, certificate_fields w S s next, certificates-from w S s (left - 1 - 1) (certificate_end w S s next), rest)
-
         -- one more is charged
         pub rows_next : {next : ℕ} {y : Tenure} {row best' : Option Charge} → next ≡ certificate_end w S s at → y ≡ tenure_at w s (left - 1) at next
             → row ≡ lowest (f y) → best' ≡ least best row → RowsLeft (left - 1) next best'
@@ -69,7 +76,6 @@ module _ (w S : ℕ) (s : List ℕ) where
             let later = flat_map f (tenures_at w S s (left - 1) (certificate_end w S s at)) in
             let here : y ≡ tenure_at w s (left - 1) at (certificate_end w S s at) = rw en at ey in
             record {
-              inside = rw en rest-inside;
               answer =
                   rw (en, eb, er, here)
                   (least_assoc best (lowest (f (tenure_at w s (left - 1) at (certificate_end w S s at)))) (lowest later)
@@ -78,7 +84,12 @@ module _ (w S : ℕ) (s : List ℕ) where
             }
 
 -- all of them
-pub rows_all : (w S : ℕ) (s : List ℕ) (f : Tenure → List Charge) {best : Option Charge} {left at : ℕ} → laid_out w S s ≡ true → best ≡ lowest []
-    → left ≡ leader_count s → at ≡ record_size w * record_count s → RowsLeft w S s f (lowest (flat_map f (tenures_of w S s))) left at best
+pub inside_all : (w S : ℕ) (s : List ℕ) {left at : ℕ} → laid_out w S s ≡ true → left ≡ leader_count s → at ≡ record_size w * record_count s
+    → Inside w S s left at
+unfolding leaders_from
+inside_all w S s laid el ea = rw (el, ea) (record { inside = leaders-inside w S s laid })
+
+pub rows_all : (w S : ℕ) (s : List ℕ) (f : Tenure → List Charge) {best : Option Charge} {left at : ℕ} → best ≡ lowest [] → left ≡ leader_count s
+    → at ≡ record_size w * record_count s → RowsLeft w S s f (lowest (flat_map f (tenures_of w S s))) left at best
 unfolding tenures_of leaders_from lowest least
-rows_all w S s f laid eb el ea = rw (eb, el, ea) (record { inside = leaders-inside w S s laid; answer = refl })
+rows_all w S s f eb el ea = rw (eb, el, ea) (record { answer = refl })

@@ -1,3 +1,4 @@
+mod Reached
 mod Forks
 pub mod Views
 pub mod Says

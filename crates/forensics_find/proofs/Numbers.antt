@@ -27,7 +27,12 @@ module _ (w : ℕ) (s : List ℕ) (later next : ℕ) where
 pub tenure_numbers : (w : ℕ) (s : List ℕ) (later at next : ℕ) {c : Numbers} {end : ℕ} {pointer : List ℕ} → c ≡ numbers_at w s at
     → pointer ≡ (ballot_at w s at).last_pointer → end ≡ end_at w s later next
     → ◌≡◌ {A = Tenure}
-    (record { candidate = c.candidate; term = c.term; last_term = c.last_term; last_index = c.last_index; last_pointer = pointer; signers = c.signers; end = end })
+    (record {
+      term = c.term;
+      request = record { candidate = c.candidate; last_term = c.last_term; last_index = c.last_index; last_pointer = pointer };
+      signers = c.signers;
+      end = end;
+    })
     (tenure_at w s later at next)
 unfolding tenure_at numbers_at
 tenure_numbers w s later at next ec ep ee = rw (ec, ep, ee)

@@ -12,8 +12,7 @@ use Rattle.replica.specs.Charges.{Charge}
 use Rattle.submission.specs.View.{Slot}
 use Rattle.lm_format.specs.Uses.{Use}
 use Rattle.forensics.specs.Findings.{all_charges, lowest, rows_from}
-use Rattle.forensics_charges.specs.declared.Row.{Row}
-use Rattle.forensics_charges.specs.Charges.{rows_by, charge_of}
+use Rattle.forensics_charges.specs.Charges.{Row, rows_by, charge_of}
 
 module _ (row : ℕ → Option Charge) where
   rows_snoc : (count k : ℕ) → rows_by row (suc count) k ≡ rows_by row count k ++ (row (k + count) ∷ [])

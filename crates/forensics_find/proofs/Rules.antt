@@ -10,15 +10,15 @@ use mathlib.Core.Logic.{⊎_elim}
 use mathlib.Core.Option.{Option, some, none}
 use Prim.Native.Nat.{ℕ, ◌≤◌, ◌<◌}
 use borrow.Author.Tests.{eqb-true, leb-true}
-use lib.Dec.{eqb, leb, ltb}
+use lib.Dec.{eqb}
 use lib.ListN.{length, take}
 use lib.Seq.{length-take-le}
 use Rattle.words.proofs.Members.{joined-empty}
 use Rattle.words.proofs.FlatMap.{flat_map-map}
+use Rattle.std.specs.Prelude as code
 use Rattle.refusal.specs.Checks.{all}
 use Rattle.refusal.proofs.Laws.{all_cons, every-mem}
 use Rattle.roster.specs.Masks.{signer}
-use Rattle.roster.proofs.Masks.{signer-none}
 use Rattle.log_chain.specs.Log.{Form, Record, last_term}
 use Rattle.log_chain.specs.Claim.{Claim}
 use Rattle.replica.specs.Charges.{Charge, charge, clash, two_votes, two_stamps, stale_vote}
@@ -31,12 +31,12 @@ use Rattle.log_chain.proofs.Runs.{run-begins}
 use Rattle.forensics.specs.Findings.{says, charges, lowest}
 use Rattle.log_chain.specs.Difference.{differ_at}
 use Rattle.forensics_charges.specs.declared.Receipt.{Receipt}
-use Rattle.forensics_charges.specs.declared.Tenure.{Tenure}
-use Rattle.forensics_charges.specs.Rules.{vote_of, two_requests, two_logs, forgotten}
-use Rattle.forensics_charges.specs.Charges.{receipts_by, receipts, between, among_terms, after_receipts, least, ruled_by}
+use Rattle.forensics_charges.specs.Rules.{vote_of, two_requests, reached, two_logs, forgotten}
+use Rattle.forensics_charges.specs.Charges.{difference_of, receipts_by, receipts, between, among_terms, after_receipts, least, ruled_by}
 use Rattle.forensics_find.proofs.Views.{tenure, tenures, ruled}
 use Rattle.forensics_charges.proofs.Lowest.{lowest-append, lowest-split, lowest-both}
 use Rattle.log_difference.proofs.Differ.{agree-take}
+use Rattle.forensics_find.proofs.Reached.{reached_both}
 use Rattle.forensics_find.proofs.Says.{said_if, vote, stamp, receipt, voter, stamper, vote_by, stamp_by, receipt_by, says-slots}
 use Rattle.forensics_find.proofs.Pairs.{over-same, over-over, pairs, by_kind, are-votes, are-stamps, are-given}
 
@@ -59,15 +59,6 @@ tests_swap : (p q : Bool) (xs : List Charge) → cond p (cond q xs []) [] ≡ co
 tests_swap true q xs = refl
 tests_swap false true xs = refl
 tests_swap false false xs = refl
-
--- nobody is charged where nobody gave a receipt
-none_charged : (k rule : ℕ) (y : Tenure) → charge (forgotten k (record { term = 0; index = 0; signers = 0 }) y) rule y.term ≡ []
-unfolding forgotten charge all
-none_charged k rule y = rw (signer-none k)
-
-nobody_gave : (k rule : ℕ) (ys : List Tenure) → after_receipts k rule (record { term = 0; index = 0; signers = 0 }) ys ≡ []
-unfolding after_receipts
-nobody_gave k rule ys = joined-empty _ ys (λ y m. none_charged k rule y)
 
 -- two tests before two
 charge-after : (p q b c : Bool) (rule term : ℕ)
@@ -140,20 +131,20 @@ module _ (k : ℕ) where
   -- 2: of the stamps
   stamp-pair : (l m : List Record) (x y : Lead) → Standing l x → Standing m y
       → cond (stamper k x) (cond (stamper k y) (clash (stamp x) (stamp y)) []) []
-      ≡ charge (two_logs k (differ_at 1 l m) (tenure x) (tenure y)) 2 (tenure x).term
+      ≡ charge (two_logs k (difference_of (differ_at 1 l m)) (tenure x) (tenure y)) 2 (tenure x).term
   unfolding clash two_stamps two_logs tenure all
   stamp-pair l m x y sx sy =
       let d = differ_at 1 l m in
       let a = length x.term.upto in
       let b = length y.term.upto in
-      let inside = all (ltb 0 d ∷ leb d a ∷ leb d b ∷ []) in
-      let differ : not (agree x.term.upto y.term.upto) ≡ inside = rw (sx.begins, sy.begins) at (agree-take a b l m) in
+      let inside = reached (difference_of d) a b in
+      let differ : not (agree x.term.upto y.term.upto) ≡ inside = rw (sx.begins, sy.begins) at (agree-take a b l m) ∙ sym (reached_both d a b) in
       let one-term = eqb (last_term x.term.upto) (last_term y.term.upto) in
-      rw (differ, sx.term, sy.term)
+      rw (differ, sx.term, sy.term, last_test inside)
       (charge_tests (stamper k x) (stamper k y) (cond one-term inside false) 2 (last_term x.term.upto))
 
   stamps-ruled : (l m : List Record) (ls ms : List Lead) → ((x : Lead) → Memᴰ x ls → Standing l x) → ((y : Lead) → Memᴰ y ms → Standing m y)
-      → pairs (flat_map (stamp_by k) ls) (flat_map (stamp_by k) ms) ≡ charged_by (λ x y. two_logs k (differ_at 1 l m) (tenure x) (tenure y)) 2 ls ms
+      → pairs (flat_map (stamp_by k) ls) (flat_map (stamp_by k) ms) ≡ charged_by (λ x y. two_logs k (difference_of (differ_at 1 l m)) (tenure x) (tenure y)) 2 ls ms
   unfolding stamp_by
   stamps-ruled l m ls ms sx sy =
       pairs-over (stamp_by k) ls (flat_map (stamp_by k) ms)
@@ -176,7 +167,7 @@ module _ (k : ℕ) where
   given-ruled : (o : Option Commit) (log : List Record) (ms : List Lead) → within o (length log) ≡ true
       → pairs (receipt_by k o log) (flat_map (vote_by k) ms) ≡ after_receipts k 3 (receipts_by o log) (map tenure ms)
   unfolding receipt_by receipts_by after_receipts vote_by pairs flat_map clash numbers
-  given-ruled none log ms e = sym (nobody_gave k 3 (map tenure ms))
+  given-ruled none log ms e = refl
   given-ruled (some c) log ms e =
       said-left (voter k) vote ms (signer c.signers k) (receipt c log)
       ∙ over-same _ _ ms (λ y m. stale-pair c log (commit-within c log e) 3 y) ∙ sym (flat_map-map _ tenure ms)
@@ -184,7 +175,7 @@ module _ (k : ℕ) where
   votes-given : (o : Option Commit) (log : List Record) (ms : List Lead) → within o (length log) ≡ true
       → pairs (flat_map (vote_by k) ms) (receipt_by k o log) ≡ after_receipts k 4 (receipts_by o log) (map tenure ms)
   unfolding receipt_by receipts_by after_receipts vote_by pairs flat_map clash numbers
-  votes-given none log ms e = joined-empty _ (flat_map (vote_by k) ms) (λ d m. refl) ∙ sym (nobody_gave k 4 (map tenure ms))
+  votes-given none log ms e = joined-empty _ (flat_map (vote_by k) ms) (λ d m. refl)
   votes-given (some c) log ms e =
       said-right (voter k) vote ms (signer c.signers k) (receipt c log)
       ∙ over-same _ _ ms (λ y m.
@@ -192,7 +183,7 @@ module _ (k : ℕ) where
       ∙ sym (flat_map-map _ tenure ms)
 
   -- 1 and 2 together, term by term
-  terms-ruled : (d : ℕ) (ls ms : List Lead)
+  terms-ruled : (d : code.Option ℕ) (ls ms : List Lead)
       → lowest (among_terms k d (map tenure ls) (map tenure ms))
       ≡ least (lowest (charged_by (λ x y. two_requests k (tenure x) (tenure y)) 1 ls ms)) (lowest (charged_by (λ x y. two_logs k d (tenure x) (tenure y)) 2 ls ms))
   unfolding among_terms between
@@ -227,7 +218,7 @@ standing form n v sound l m =
 module _ (form : Form) (n S k : ℕ) (some-replica : 0 < k) (few : k ≤ 16) (a b : View) (sound_a : Sound form n a) (sound_b : Sound form n b) where
   unfoldable answer : Option Charge
   answer =
-      let d = differ_at 1 a.log b.log in
+      let d = difference_of (differ_at 1 a.log b.log) in
       least
       (least
       (least (lowest (charged_by (λ x y. two_requests k (tenure x) (tenure y)) 1 (leads a) (leads b)))
@@ -251,15 +242,15 @@ module _ (form : Form) (n S k : ℕ) (some-replica : 0 < k) (few : k ≤ 16) (a 
         votes-given k b.commit b.log (leads a) sound_b.commit,
       )
 
-  from-numbers : lowest (ruled k (differ_at 1 a.log b.log) a b) ≡ answer
+  from-numbers : lowest (ruled k (difference_of (differ_at 1 a.log b.log)) a b) ≡ answer
   unfolding ruled ruled_by tenures receipts answer
   from-numbers =
-      let d = differ_at 1 a.log b.log in
+      let d = difference_of (differ_at 1 a.log b.log) in
       let one = among_terms k d (map tenure (leads a)) (map tenure (leads b)) in
       let two = after_receipts k 3 (receipts_by a.commit a.log) (map tenure (leads b)) in
       let three = after_receipts k 4 (receipts_by b.commit b.log) (map tenure (leads a)) in
       lowest-append (one ++ two) three
       ∙ ap (λ z. least z (lowest three)) (lowest-append one two ∙ ap (λ z. least z (lowest two)) (terms-ruled k d (leads a) (leads b)))
 
-  pub rows-ruled : lowest (charges k (slots S a) (slots S b)) ≡ lowest (ruled k (differ_at 1 a.log b.log) a b)
+  pub rows-ruled : lowest (charges k (slots S a) (slots S b)) ≡ lowest (ruled k (difference_of (differ_at 1 a.log b.log)) a b)
   rows-ruled = from-signatures ∙ sym from-numbers

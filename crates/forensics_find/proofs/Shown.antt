@@ -8,6 +8,7 @@ use Prim.Native.Nat.{ℕ, ◌+◌, ◌-◌, ◌<◌}
 use native.Mathlib.Omega.{arith}
 use lib.Dec.{lit≤}
 use lib.ListN.{length, get_or, get_or-map}
+use Rattle.std.specs.Prelude.{Option, None, unwrap_or}
 use Rattle.roster.specs.Roster.{replicas, signature_size, roster_number}
 use Rattle.roster.proofs.Accepted.{signature-bounds}
 use Rattle.log_chain.specs.Log.{version1, with_terms}
@@ -28,9 +29,8 @@ use Rattle.submission_signatures.specs.Checked.{Checked, PointersIn}
 use Rattle.submission_uses.proofs.Gathered.{uses-append}
 use Rattle.submission_parts.proofs.Inside.{bounds}
 use Rattle.forensics_charges.specs.declared.Receipt.{Receipt}
-use Rattle.forensics_charges.specs.declared.Row.{Row}
 use Rattle.forensics_charges.specs.declared.Findings.{Findings}
-use Rattle.forensics_charges.specs.Charges.{receipts, ruled_by, rows_by, fork_of, least, charge_of, row_at, findings_of}
+use Rattle.forensics_charges.specs.Charges.{Row, difference_of, receipts, ruled_by, rows_by, fork_of, least, charge_of, row_at, findings_of}
 use Rattle.forensics_charges.proofs.Lowest.{lowest-append}
 use Rattle.forensics_find.specs.declared.Side.{Side}
 use Rattle.forensics_find.specs.Leaves.{Gatherable, side_uses, leaf_row}
@@ -45,10 +45,10 @@ use Rattle.forensics_find.proofs.Rules.{rows-ruled}
 -- ---- the fork and the rows that were read
 
 module _ (w S : ℕ) (a b : List ℕ) where
-  pub read-says : {m n d : ℕ} {first second : Receipt} (fork : ℕ) (rows : List Row) → d ≡ differ_at 1 (records_of w m a) (records_of w n b)
+  pub read-says : {m n d : ℕ} {first second : Option Receipt} (fork : Option ℕ) (rows : List Row) → d ≡ differ_at 1 (records_of w m a) (records_of w n b)
       → m ≡ record_count a → n ≡ record_count b → first ≡ receipts (view w S a) → second ≡ receipts (view w S b)
-      → fork ≡ fork_of d first second
-      → map charge_of rows ≡ rows_by (λ k. lowest (ruled_by k d (tenures_of w S a) (tenures_of w S b) first second)) 9 1
+      → unwrap_or fork 0 ≡ fork_of (difference_of d) first second
+      → map charge_of rows ≡ rows_by (λ k. lowest (ruled_by k (difference_of d) (tenures_of w S a) (tenures_of w S b) first second)) 9 1
       → findings_of (record { fork = fork; rows = rows }) ≡ read w S a b
   unfolding findings_of read view
   read-says fork rows ed em en ef es fork-is rows_are = rw (fork-is, rows_are, ed, em, en, ef, es)
@@ -78,7 +78,7 @@ module _ (roster a b : List ℕ) (first : Facts roster a) (second : Facts roster
   row_read : (k : ℕ) → 0 < k → k < 10
       → let w = (form_of roster).term_bytes in let S = signature_size roster in
       lowest (charges k (slots S (view_of roster a)) (slots S (view_of roster b)))
-      ≡ lowest (ruled_by k (differ_at 1 (view_of roster a).log (view_of roster b).log) (tenures_of w S a) (tenures_of w S b)
+      ≡ lowest (ruled_by k (difference_of (differ_at 1 (view_of roster a).log (view_of roster b).log)) (tenures_of w S a) (tenures_of w S b)
       (receipts (view_of roster a)) (receipts (view_of roster b)))
   unfolding ruled
   row_read k low high =
@@ -101,7 +101,7 @@ module _ (roster a b : List ℕ) (first : Facts roster a) (second : Facts roster
       four-at : (k : ℕ) → 0 < k → k < 10 → row_at ruled.rows k ≡ lowest (charges k (slots (signature_size roster) (view_of roster a)) (slots (signature_size roster) (view_of roster b)))
       unfolding row_at findings_of read view_of form_of version1
       four-at k low high =
-          let none_row : Row = record { rule = 0; term = 0 } in
+          let none_row : Row = None in
           let place : 1 + (k - 1) ≡ k = omega arith in
           sym (get_or-map charge_of ruled.rows (k - 1) none_row)
           ∙ ap (λ (f : forensics.Findings). get_or f.rows (k - 1) (charge_of none_row)) four
@@ -111,7 +111,7 @@ module _ (roster a b : List ℕ) (first : Facts roster a) (second : Facts roster
       pub found-is : findings_of (record { fork = ruled.fork; rows = rows }) ≡ found_in roster a b
       unfolding findings_of found_in findings all_charges read view_of form_of version1
       found-is =
-          let same-fork : ruled.fork ≡ fork (view_of roster a) (view_of roster b) = ap (λ (f : forensics.Findings). f.fork) four ∙ sym (fork_ruled (view_of roster a) (view_of roster b)) in
+          let same-fork : unwrap_or ruled.fork 0 ≡ fork (view_of roster a) (view_of roster b) = ap (λ (f : forensics.Findings). f.fork) four ∙ sym (fork_ruled (view_of roster a) (view_of roster b)) in
           let xs = slots (signature_size roster) (view_of roster a) in
           let ys = slots (signature_size roster) (view_of roster b) in
           let all : (k : ℕ) → 0 < k → k < 10 → lowest (all_charges (slot_use (form_of roster) roster) k xs ys) ≡ least (row_at ruled.rows k) (leaf_row roster a b x y k) =

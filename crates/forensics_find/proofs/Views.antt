@@ -3,6 +3,7 @@
 use mathlib.Core.List.{List, map}
 use Prim.Native.Nat.{ℕ}
 use lib.ListN.{length}
+use Rattle.std.specs.Prelude.{Option}
 use Rattle.replica.specs.Charges.{Charge}
 use Rattle.submission.specs.View.{View, Lead, leads}
 use Rattle.forensics_charges.specs.declared.Tenure.{Tenure}
@@ -13,11 +14,8 @@ tenure l =
     let c = l.certificate in
     let b = c.ballot in
     record {
-      candidate = b.candidate;
       term = b.term;
-      last_term = b.last_term;
-      last_index = b.last_index;
-      last_pointer = b.last_pointer;
+      request = record { candidate = b.candidate; last_term = b.last_term; last_index = b.last_index; last_pointer = b.last_pointer };
       signers = c.signers;
       end = length l.term.upto;
     }
@@ -25,5 +23,5 @@ tenure l =
 unfoldable pub tenures : View → List Tenure
 tenures v = map tenure (leads v)
 
-unfoldable pub ruled : ℕ → ℕ → View → View → List Charge
+unfoldable pub ruled : ℕ → Option ℕ → View → View → List Charge
 ruled k difference a b = ruled_by k difference (tenures a) (tenures b) (receipts a) (receipts b)

@@ -1,3 +1,4 @@
 pub mod Read
 pub mod Tenures
 pub mod Leaves
+pub mod Lowest

@@ -4,6 +4,7 @@
 use Rattle.std.specs.Prelude.{List, [], ◌∷◌, ℕ, zero, suc, ◌+◌}
 use Rattle.submission.specs.Trailer.{record_count, leader_count}
 use Rattle.submission.specs.Reading.{ballot_size, ballot_at, signers_at, certificate_end, leaders_from}
+use Rattle.forensics_charges.specs.declared.Request.{Request}
 use Rattle.forensics_charges.specs.declared.Tenure.{Tenure}
 
 module _ (w : ℕ) (s : List ℕ) where
@@ -16,12 +17,16 @@ module _ (w : ℕ) (s : List ℕ) where
   unfoldable pub tenure_at : ℕ → ℕ → ℕ → Tenure
   tenure_at later at next =
       let b = ballot_at w s at in
+      let asked : Request =
       record {
         candidate = b.candidate;
-        term = b.term;
         last_term = b.last_term;
         last_index = b.last_index;
         last_pointer = b.last_pointer;
+      } in
+      record {
+        term = b.term;
+        request = asked;
         signers = signers_at s (at + ballot_size w);
         end = end_at later next;
       }

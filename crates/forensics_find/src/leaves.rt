@@ -7,7 +7,7 @@ ghost use Rattle.forensics_charges.specs.Charges as inner;
 ghost use Rattle.forensics_find.specs.Leaves.{use_most, Gatherable, leaf_row};
 
 use super::Side;
-use forensics_charges::Row;
+use forensics_charges::Charge;
 use submission_leaves::ENTRY_SIZE;
 
 // The most signatures of a replica in two submissions: in each a vote and a stamp for each of 64 terms, and
@@ -23,7 +23,7 @@ fn replica_row(
     other: Side,
     k: usize,
     buffer: &mut [u8],
-) -> Row
+) -> Option<Charge>
     requires { Gatherable roster.now a.now one × Gatherable roster.now b.now other × (0 < k)
         × (k ≤ mask_bits) × (entry_size * use_most ≤ length buffer.old) }
     ensures { inner.charge_of result
@@ -41,21 +41,18 @@ pub fn leaf_rows(
     b: &[u8],
     one: Side,
     other: Side,
-    rows: [Row; forensics::ROW_COUNT],
-) -> [Row; forensics::ROW_COUNT]
+    rows: [Option<Charge>; forensics::ROW_COUNT],
+) -> [Option<Charge>; forensics::ROW_COUNT]
     requires { Gatherable roster.now a.now one × Gatherable roster.now b.now other }
     ensures { map inner.charge_of result
         ≡ inner.rows_by (λ k. inner.least (inner.row_at rows k) (leaf_row roster.now
         a.now b.now one other k)) 9 1 }
 {
     let mut buffer = [0u8; ENTRY_SIZE * USE_MOST];
-    let mut out = [Row { rule: 0, term: 0 }; forensics::ROW_COUNT];
-    let mut i = 0;
-    while i < forensics::ROW_COUNT {
-        let row = rows[i];
+    let mut out = [None; forensics::ROW_COUNT];
+    for (i, row) in rows.iter().enumerate() {
         let leaves = replica_row(roster, a, b, one, other, i + 1, &mut buffer);
-        out[i] = forensics_charges::lower_row(row, leaves);
-        i += 1;
+        out[i] = forensics_charges::lower_row(*row, leaves);
     }
     out
 }

@@ -2,7 +2,7 @@
 // fixed here, by the version, and free below.
 #![tactic(auto)]
 
-ghost use Rattle.std.specs.Prelude.{◌≡◌, true, length};
+ghost use Rattle.std.specs.Prelude.{◌≡◌, true, length, unwrap_or, IfSome, ◌<◌};
 ghost use Rattle.roster.specs.Roster.{roster_number};
 ghost use Rattle.log_terms.specs.Pointed.{PointersOf};
 ghost use Rattle.submission.specs.View.{committed};
@@ -29,17 +29,26 @@ pub struct Side {
     pub pointers: LogPointers,
 }
 
-// The fork index: the first difference of the logs, where both have committed it; 0 if there is none.
-fn fork(difference: usize, first: Receipt, second: Receipt) -> u32
-    ensures { result ≡ inner.fork_of difference first second }
+// The fork index: the first difference of the logs, where both have committed it.
+fn fork(difference: Option<usize>, first: Option<Receipt>, second: Option<Receipt>) -> Option<u32>
+    ensures index { unwrap_or result 0 ≡ inner.fork_of difference first second }
+    ensures from_one { IfSome difference (λ index. 0 < index) → IfSome result (λ index. 0 < index) }
 {
-    if (first.index as usize) < difference {
-        return 0;
+    let index = difference?;
+    let first = first?;
+    let second = second?;
+    if index <= first.index as usize && index <= second.index as usize {
+        Some(index as u32)
+    } else {
+        None
     }
-    if (second.index as usize) < difference {
-        return 0;
-    }
-    difference as u32
+}
+
+// The index of a difference, where there is one.
+fn differing(index: usize) -> Option<usize>
+    ensures { result ≡ inner.difference_of index }
+{
+    if index == 0 { None } else { Some(index) }
 }
 
 // The fork index and the rows of two laid-out submissions, by rules 1 to 4.
@@ -48,15 +57,17 @@ fn found(a: &[u8], b: &[u8], width: usize, size: usize) -> Findings
         × (within (view width size a.now).commit (length (view width size a.now).log) ≡ true)
         × Bounds width size b.now × (laid_out width size b.now ≡ true)
         × (within (view width size b.now).commit (length (view width size b.now).log) ≡ true) }
-    ensures { inner.findings_of result ≡ read width size a.now b.now }
+    ensures findings { inner.findings_of result ≡ read width size a.now b.now }
+    ensures fork { IfSome result.fork (λ index. 0 < index) }
 {
-    let difference = log_difference::difference(
+    let index = log_difference::difference(
         a,
         b,
         width,
         submission_trailer::record_count(a),
         submission_trailer::record_count(b),
     );
+    let difference = differing(index);
     let first = tenures::receipts_of(a, width, size);
     let second = tenures::receipts_of(b, width, size);
     Findings {
@@ -74,8 +85,9 @@ pub fn find(roster: &[u8], a: &[u8], b: &[u8], first: LogPointers, second: LogPo
         a.now).log first
         × PointersOf (form_of roster.now) (committed (view_of roster.now b.now)) (view_of roster.now
         b.now).log second }
-    ensures { inner.findings_of result
+    ensures findings { inner.findings_of result
         ≡ forensics.found_in roster.now a.now b.now }
+    ensures fork { IfSome result.fork (λ index. 0 < index) }
 {
     let size = roster::signature_size(roster);
     let ruled = found(a, b, submission_trailer::TERM_SIZE, size);

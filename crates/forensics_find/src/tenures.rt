@@ -10,7 +10,7 @@ ghost use Rattle.submission_parts.specs.Parts.{Bounds};
 ghost use Rattle.forensics_charges.specs.Charges.{receipts};
 ghost use Rattle.forensics_find.specs.Tenures as inner;
 
-use forensics_charges::{Receipt, Tenure};
+use forensics_charges::{Receipt, Request, Tenure};
 use submission::TERM_AT;
 
 // The last record of the term before a place, with so many leader certificates from there on.
@@ -39,34 +39,30 @@ pub fn tenure_at(s: &[u8], width: usize, later: usize, at: usize, next: usize) -
     ).bytes();
     let end = end_at(s, width, later, next);
     Tenure {
-        candidate: c.candidate,
         term: c.term,
-        last_term: c.last_term,
-        last_index: c.last_index,
-        last_pointer: pointer,
+        request: Request {
+            candidate: c.candidate,
+            last_term: c.last_term,
+            last_index: c.last_index,
+            last_pointer: pointer,
+        },
         signers: c.signers,
-        end: end,
+        end,
     }
 }
 
 // The receipts of a submission: the term of the record that its commit certificate names, the index, and the
 // signers.
-pub fn receipts_of(s: &[u8], width: usize, size: usize) -> Receipt
+pub fn receipts_of(s: &[u8], width: usize, size: usize) -> Option<Receipt>
     requires { Bounds width size s.now × (laid_out width size s.now ≡ true)
         × (within (view width size s.now).commit (length (view width size s.now).log) ≡ true) }
     ensures { result ≡ receipts (view width size s.now) }
 {
-    let Some((c, _)) = submission_parts::commit_part(s, width, size) else {
-        return Receipt {
-            term: 0,
-            index: 0,
-            signers: 0,
-        };
-    };
+    let (c, _) = submission_parts::commit_part(s, width, size)?;
     let term = log_terms::last_term(s, width, c.index as usize);
-    Receipt {
-        term: term,
+    Some(Receipt {
+        term,
         index: c.index,
         signers: c.signers,
-    }
+    })
 }

@@ -8,8 +8,7 @@ use lib.ListN.{length, drop, length-map}
 use lib.Seq.{sets, sets-eq}
 use Rattle.words.specs.BigEndian.{be}
 use Rattle.forensics.specs.Findings.{mask_of}
-use Rattle.forensics_charges.specs.declared.Row.{Row}
-use Rattle.forensics_charges.specs.Charges.{charge_of}
+use Rattle.forensics_charges.specs.Charges.{Row, charge_of}
 use Rattle.report.specs.Report.{Answer, row_bytes, report_bytes}
 use Rattle.report_rows.proofs.Bytes.{length-rows}
 use Rattle.report_bytes.specs.Answers.{answered}

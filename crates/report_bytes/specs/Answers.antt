@@ -1,8 +1,7 @@
 -- The report's answer, from findings as the code holds them (document 01, "The report").
 use Rattle.std.specs.Prelude.{List, map, ℕ}
-use Rattle.forensics_charges.specs.declared.Row.{Row}
 use Rattle.forensics_charges.specs.declared.Findings.{Findings}
-use Rattle.forensics_charges.specs.Charges.{charge_of, findings_of}
+use Rattle.forensics_charges.specs.Charges.{Row, charge_of, findings_of}
 use Rattle.report.specs.Report.{Answer}
 
 -- number, where, fork index and rows

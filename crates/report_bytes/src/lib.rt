@@ -9,7 +9,7 @@ ghost use Rattle.report.specs.Report.{refused, report_size, report_bytes};
 ghost use Rattle.report.specs.Places.{rows_place};
 ghost use Rattle.report_bytes.specs.Answers.{answered, accepted};
 
-use forensics_charges::{Findings, Row};
+use forensics_charges::{Charge, Findings};
 use report::{FORK_AT, MASK_AT, PLACE_AT};
 
 // Writes what stands before the rows: number, where, fork index and named replicas.
@@ -25,7 +25,13 @@ fn put_head(out: &mut [u8], number: u32, place: u32, fork: u32, mask: u16)
 }
 
 // Writes a report: number, where, fork index and rows.
-fn put_report(out: &mut [u8], number: u32, place: u32, fork: u32, rows: [Row; forensics::ROW_COUNT])
+fn put_report(
+    out: &mut [u8],
+    number: u32,
+    place: u32,
+    fork: u32,
+    rows: [Option<Charge>; forensics::ROW_COUNT],
+)
     requires { report_size ≤ length out.old }
     ensures { out.new
         ≡ report_bytes (answered number place fork rows) ++ drop report_size out.old }
@@ -48,8 +54,7 @@ pub fn write_accepted(report: &mut [u8], findings: Findings) -> u32
     ensures bytes { report.new
         ≡ report_bytes (accepted findings) ++ drop report_size report.old }
 {
-    let rows = findings.rows;
-    put_report(report, 0, 0, findings.fork, rows);
+    put_report(report, 0, 0, findings.fork.unwrap_or(0), findings.rows);
     0
 }
 
@@ -60,7 +65,6 @@ pub fn write_refused(report: &mut [u8], number: u32, place: u32) -> u32
     ensures bytes { report.new
         ≡ report_bytes (refused number place) ++ drop report_size report.old }
 {
-    let rows = [Row { rule: 0, term: 0 }; forensics::ROW_COUNT];
-    put_report(report, number, place, 0, rows);
+    put_report(report, number, place, 0, [None; forensics::ROW_COUNT]);
     number
 }

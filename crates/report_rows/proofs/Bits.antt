@@ -1,6 +1,6 @@
 -- The named replicas from the rows: each row gives a bit, the highest replica first.
 -- Assumes nothing.
-use mathlib.Core.Path.{◌≡◌, ap, ◌∙◌}
+use mathlib.Core.Path.{◌≡◌, refl, ap, ◌∙◌}
 use mathlib.Core.List.{List, [], ◌∷◌, map}
 use mathlib.Core.Option.{Option, some, none}
 use Prim.Native.Nat.{ℕ, suc, ◌+◌, ◌-◌, ◌*◌, ◌^◌, ◌≤◌, ◌<◌}
@@ -9,10 +9,17 @@ use native.Mathlib.Omega.{arith}
 use lib.Dec.{lit<}
 use lib.ListN.{length, drop, get_or, length-drop, length-map}
 use lib.Seq.{drop-cons}
+use Rattle.std.specs.Int.{from_bool}
+use Rattle.std.specs.Prelude.{Some, None, is_some}
 use Rattle.replica.specs.Charges.{Charge}
 use Rattle.forensics.specs.Findings.{bit, mask_of}
-use Rattle.forensics_charges.specs.declared.Row.{Row}
-use Rattle.forensics_charges.specs.Charges.{charge_of}
+use Rattle.forensics_charges.specs.Charges.{Row, charge_of}
+
+-- a row's bit, by whether it has a charge
+pub bit-is : (row : Row) → (from_bool (is_some row) ≡ bit (charge_of row)) × (from_bool (is_some row) < 2)
+unfolding bit charge_of
+bit-is None = (refl, lit< tt)
+bit-is (Some c) = (refl, lit< tt)
 
 bit-lt : (x : Option Charge) → bit x < 2
 unfolding bit

@@ -8,12 +8,12 @@ use native.Mathlib.Numerals.{add-one}
 use native.Mathlib.Omega.{arith}
 use lib.ListN.{length, take, get_or, length-append, length-map}
 use lib.Seq.{sets, length-sets, take-suc, length-take-le}
+use Rattle.std.specs.Prelude.{Some, None, unwrap_or}
 use Rattle.words.specs.BigEndian.{be}
 use Rattle.words.proofs.Laws.{length-be, sets-append}
 use Rattle.words.proofs.FlatMap.{flat_map-one}
 use Rattle.replica.specs.Charges.{Charge}
-use Rattle.forensics_charges.specs.declared.Row.{Row}
-use Rattle.forensics_charges.specs.Charges.{charge_of}
+use Rattle.forensics_charges.specs.Charges.{Row, meaning, charge_of}
 use Rattle.report.specs.Report.{row_bytes}
 
 -- ---- a row
@@ -22,6 +22,12 @@ pub length-row : (x : Option Charge) → length (row_bytes x) ≡ 5
 unfolding row_bytes be
 length-row none = refl
 length-row (some c) = refl
+
+-- without a charge zeros
+pub row-is : (row : Row) → let c = unwrap_or row (record { rule = 0; term = 0 }) in be 1 c.rule ++ be 4 c.term ≡ row_bytes (charge_of row)
+unfolding row_bytes charge_of meaning
+row-is None = refl
+row-is (Some c) = refl
 
 -- ---- the rows
 

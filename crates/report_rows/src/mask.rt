@@ -3,24 +3,22 @@ ghost use Rattle.std.specs.Prelude.{◌≡◌, map, ◌<◌};
 ghost use Rattle.forensics.specs.Findings.{bit, mask_of};
 ghost use Rattle.forensics_charges.specs.Charges.{charge_of};
 
-use forensics_charges::Row;
+use forensics_charges::Charge;
 
 // 1 if the replica of a row is named, and 0 if not.
-fn bit_of(row: Row) -> u16
+fn bit_of(row: Option<Charge>) -> u16
     ensures { (result ≡ bit (charge_of row)) × (result < 2) }
 {
-    if row.rule == 0 { 0 } else { 1 }
+    u16::from(row.is_some())
 }
 
 // The named replicas: bit k - 1 is replica k.
-pub fn named_mask(rows: [Row; forensics::ROW_COUNT]) -> u16
+pub fn named_mask(rows: [Option<Charge>; forensics::ROW_COUNT]) -> u16
     ensures { result ≡ mask_of (map charge_of rows) }
 {
     let mut mask: u16 = 0;
-    let mut left: usize = forensics::ROW_COUNT;
-    while 0 < left {
-        left -= 1;
-        mask = mask * 2 + bit_of(rows[left]);
+    for i in (0..forensics::ROW_COUNT).rev() {
+        mask = mask * 2 + bit_of(rows[i]);
     }
     mask
 }

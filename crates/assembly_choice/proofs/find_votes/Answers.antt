@@ -16,18 +16,19 @@ put_u16-requires c =
 
 pub find_copies-requires : goal.find_copies-requires
 find_copies-requires c =
-    let tail = c.vote_tail.ensures.0 in
+    let tail = c.vote_tail-tail.ensures.0 in
     let a = c.args in
     let p = c.requires.0 in
     let w = p.width in
     let kept = ap length c.put_u16.ensures ∙ length-sets a.votes.now 17 (be 2 a.candidate) in
+    rw (c.sought-sought.ensures, tail)
     record {
       fine = p.fine;
       width = w;
       size = p.size;
       items = p.items;
       short = omega (arith, tail);
-      inside = rw (kept, tail) (fewer_terms_inside vote_head (vote_tail a.terms.width) a.terms.count (length a.votes.now) p.count c.requires.1);
+      inside = rw kept (fewer_terms_inside vote_head (vote_tail a.terms.width) a.terms.count (length a.votes.now) p.count c.requires.1);
       cells = c.requires.3;
     }
 
@@ -44,10 +45,10 @@ returns c =
     let found = c.find_copies in
     let a = c.args in
     let kept = ap length c.put_u16.ensures ∙ length-sets a.votes.now 17 (be 2 a.candidate) in
-    let copies = rw c.vote_tail.ensures.0 at found.ensures.copies in record {
+    let copies = rw (c.sought-sought.ensures, c.vote_tail-tail.ensures.0) at found.ensures.copies in record {
       votes = λ rs last all wanted.
           let named = votes-for a.roster.now a.items.now a.terms c.requires.0.fine rs all last a.candidate a.votes.now _ c.put_u16.ensures wanted in
           (named, votes-placed a.roster.now a.items.now a.terms c.requires.0.fine rs all a.candidate c.put_u16.new.out _ copies named);
-      placed = found.ensures.placed;
+      placed = rw c.sought-sought.ensures at found.ensures.placed;
       rooms = (kept, found.ensures.room);
     }

@@ -1,28 +1,34 @@
 -- The three tests in order; each answer is the definition's.
+use mathlib.Core.Path.{sym, ◌∙◌}
+use mathlib.Core.Bool.{false≢true}
 use native.Mathlib.Omega.{arith}
 use borrow.Author.Tests.{le-leb, lt-leb}
 use lib.Count.{ones}
-use Rattle.refusal.proofs.Laws.{first_fails, first_holds, all_one, met, unmet}
+use Rattle.refusal.proofs.Laws.{first_fails, first_holds, all_one}
 use Rattle.roster.specs.Roster.{quorum}
 use Rattle.assembly_choice.specs.Settled.{electable}
-use mathlib.Core.Path.{ap}
-use mathlib.Core.Bool.{not}
 use Rattle.assembly_choice.proofs.is_electable.Goals as goal
+use Rattle.assembly_choice.proofs.is_electable.Goals.{then-quorum-mask, else-quorum-mask}
 
-pub returns-then-mask-quorum : goal.returns-then-mask-quorum
+pub returns-then-signer : goal.returns-then-signer
 unfolding electable
-returns-then-mask-quorum c = let a = c.args in first_fails _ _ (lt-leb (quorum a.n) (ones a.mask) (omega arith))
-
-pub returns-then-not-signer : goal.returns-then-not-signer
-unfolding electable
-returns-then-not-signer c =
+returns-then-signer c =
     let a = c.args in
-    first_holds _ _ (le-leb (quorum a.n) (ones a.mask) (omega arith))
-    (first_fails _ _ (unmet c.signer.ensures (ap not c.if-not-signer.true)))
+    elim c.if-quorum-mask.branch [
+      | then-quorum-mask w ↦
+          first_holds _ _ (le-leb (quorum a.n) (ones a.mask) (omega arith))
+          (first_holds _ _ (sym w.signer.ensures ∙ sym w.value-is ∙ c.if-signer.true) (all_one _))
+      | else-quorum-mask w ↦ absurd (false≢true (sym (lt-leb c.quorum.result (ones a.mask) (omega arith)) ∙ sym w.value-is ∙ c.if-signer.true))
+    ]
 
-pub returns : goal.returns
+pub returns-else-signer : goal.returns-else-signer
 unfolding electable
-returns c =
+returns-else-signer c =
     let a = c.args in
-    first_holds _ _ (le-leb (quorum a.n) (ones a.mask) (omega arith))
-    (first_holds _ _ (met c.signer.ensures (ap not c.if-not-signer.false)) (all_one _))
+    elim c.if-quorum-mask.branch [
+      | then-quorum-mask w ↦
+          c.if-signer.false
+          ∙ first_holds _ _ (le-leb (quorum a.n) (ones a.mask) (omega arith))
+          (first_fails _ _ (sym w.signer.ensures ∙ sym w.value-is ∙ c.if-signer.false))
+      | else-quorum-mask w ↦ c.if-signer.false ∙ first_fails _ _ (lt-leb (quorum a.n) (ones a.mask) (omega arith))
+    ]

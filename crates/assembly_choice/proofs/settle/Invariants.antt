@@ -1,6 +1,5 @@
 -- One term a turn: the rows passed are settled, the others as they were.
 use mathlib.Core.Path.{◌≡◌}
-use Prim.Native.Nat.{◌-◌, ◌≤◌}
 use lib.ListN.{length}
 use Rattle.assembly_choice.specs.Settled.{Settled}
 use Rattle.assembly_choice.proofs.Settling.{Kept}
@@ -8,7 +7,4 @@ use Rattle.assembly_choice.proofs.settle.Given as goal
 
 abbrev pub invariant-loop-t : goal.invariant-loop-t
 invariant-loop-t l =
-    (l.t ≤ l.count) × (length l.taken ≡ length l.initial.taken) × Settled l.n l.candidate l.voted l.stamped l.t l.initial.taken l.taken × Kept l.t l.initial.taken l.taken
-
-abbrev pub decreases-loop-t : goal.decreases-loop-t
-decreases-loop-t l = l.count - l.t
+    (length l.taken ≡ length l.initial.taken) × Settled l.n l.candidate l.voted l.stamped l.t l.initial.taken l.taken × Kept l.t l.initial.taken l.taken

@@ -20,6 +20,3 @@ invariant-loop-candidate l =
     × ((rs : List Run) → length rs ≡ l.terms.count → VotesIn form 0 rs l.initial.votes → VotesIn form (last_tried n l.candidate) rs l.votes)
     × ((rs : List Run) → length rs ≡ l.terms.count → VotesIn form 0 rs l.initial.votes → StampsPlaced l.roster l.items l.terms rs l.stamped
     → Tried l.roster l.items l.terms rs n l.initial.taken → Tried l.roster l.items l.terms rs l.candidate l.taken)
-
-abbrev pub decreases-loop-candidate : goal.decreases-loop-candidate
-decreases-loop-candidate l = l.candidate

@@ -17,6 +17,3 @@ invariant-loop-i l =
     let log = records_of l.widths.width l.widths.records l.log in
     (l.i ≤ l.widths.records) × (commit_to form l.roster items l.widths.records log ≡ commit_to form l.roster items l.i log)
     × (length l.places ≡ replicas_most) × (l.row ≡ l.initial.row)
-
-abbrev pub decreases-loop-i : goal.decreases-loop-i
-decreases-loop-i l = l.i

@@ -1,4 +1,4 @@
--- One item a turn: what is found so far, with what the items that are left have, is what all of them have. No reading is refused, since the bag
+-- One item a turn: what is found so far, with what the items that are left have, is what all of them have. Every item is read, since the bag
 -- is whole.
 use mathlib.Core.Path.{refl, sym, ◌∙◌}
 use native.Mathlib.Omega.{arith}
@@ -8,8 +8,8 @@ use Rattle.assembly_items.proofs.Items.{stands}
 use Rattle.assembly_copies.proofs.Walks.{item_lies, searched_room, walked_none, walked_all, never, walked-unlike, walked-taken}
 use Rattle.assembly_copies.proofs.find_copies.Goals as goal
 
-pub overflow_mul-count : goal.overflow_mul-count
-overflow_mul-count c = omega (arith, c.requires.cells)
+pub overflow_mul-sought : goal.overflow_mul-sought
+overflow_mul-sought c = omega (arith, c.requires.cells)
 
 pub clear-requires : goal.clear-requires
 clear-requires c = c.requires.cells
@@ -37,7 +37,7 @@ alike-requires c =
     let a = c.args in (
       c.requires.fine,
       c.requires.inside,
-      item_lies a.sought.width a.sought.size a.items.now c.loop-at.at (sym c.read.ensures ∙ c.in-Read.is),
+      item_lies a.sought.width a.sought.size a.items.now c.loop-at.at (sym c.read.ensures ∙ c.in-Some.is),
     )
 
 pub offer-requires : goal.offer-requires
@@ -50,7 +50,7 @@ offer-requires c =
       cells = omega (arith, c.requires.cells, c.loop-at.invariant.long, c.clear.ensures.room);
       placed = c.loop-at.invariant.placed;
       lies = item_lies a.sought.width a.sought.size a.items.now c.loop-at.at
-          (sym c.read.ensures ∙ c.in-Read.is);
+          (sym c.read.ensures ∙ c.in-Some.is);
       alike = c.alike.ensures.yes c.if-alike.true;
     }
 
@@ -59,7 +59,7 @@ loop-at-smaller-then-alike c =
     let a = c.args in
     let here =
     stands a.sought.width a.sought.size a.items.now c.loop-at.at
-    (sym c.read.ensures ∙ c.in-Read.is) in
+    (sym c.read.ensures ∙ c.in-Some.is) in
     omega (arith, here, c.loop-at-test)
 
 pub loop-at-preserved-then-alike : goal.loop-at-preserved-then-alike
@@ -67,21 +67,21 @@ loop-at-preserved-then-alike c =
     let a = c.args in
     let given = c.offer.ensures in
     walked-taken a.roster.now a.items.now a.wanted.now a.sought _ c.loop-at.rows c.loop-at.at c.loop-at.invariant (search rules)
-    (sym c.read.ensures ∙ c.in-Read.is) _ given.taken given.placed given.room
+    (sym c.read.ensures ∙ c.in-Some.is) _ given.taken given.placed given.room
 
 pub loop-at-smaller : goal.loop-at-smaller
 loop-at-smaller c =
     let a = c.args in
     let here =
     stands a.sought.width a.sought.size a.items.now c.loop-at.at
-    (sym c.read.ensures ∙ c.in-Read.is) in
+    (sym c.read.ensures ∙ c.in-Some.is) in
     omega (arith, here)
 
 pub loop-at-preserved : goal.loop-at-preserved
 loop-at-preserved c =
     let a = c.args in
     walked-unlike a.roster.now a.items.now a.wanted.now a.sought _ c.loop-at.rows c.loop-at.at c.loop-at.invariant (search rules)
-    (sym c.read.ensures ∙ c.in-Read.is) (c.alike.ensures.no c.if-alike.false)
+    (sym c.read.ensures ∙ c.in-Some.is) (c.alike.ensures.no c.if-alike.false)
 
 pub returns : goal.returns
 returns c =

@@ -1,4 +1,4 @@
--- One item a turn: what is found so far, with what the items that are left have, is what all of them have. No reading is refused, since the bag
+-- One item a turn: what is found so far, with what the items that are left have, is what all of them have. Every item is read, since the bag
 -- is whole.
 use Prim.Native.Nat.{◌-◌}
 use lib.ListN.{length}

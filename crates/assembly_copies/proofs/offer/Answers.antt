@@ -6,6 +6,8 @@ use Rattle.roster.proofs.Accepted.{sizes}
 use Rattle.assembly_copies.proofs.Fitting.{own-inside, own-length}
 use Rattle.assembly_copies.proofs.Turns.{turned_none, turned-all, turn-had, turn-unfit, turn-taken}
 use Rattle.assembly_copies.proofs.offer.Goals as goal
+use Rattle.assembly_copies.proofs.offer.Goals.{then-free+then-is_copy, else-free}
+use Rattle.assembly_copies.proofs.offer.Goals.{else-free-via-then-free+else-is_copy, else-free-via-else-free}
 
 pub overflow_sub-column : goal.overflow_sub-column
 overflow_sub-column c = omega (arith, c.requires.alike.numbered)
@@ -69,29 +71,30 @@ bounds-rows-cell-then-is_copy c =
     let roster = sizes c.args.roster.now c.requires.fine in
     omega (arith, c.requires.cells, c.requires.alike.numbered, c.requires.alike.known, roster.high, c.loop-m.invariant.room)
 
-pub loop-m-preserved-then-is_copy : goal.loop-m-preserved-then-is_copy
-loop-m-preserved-then-is_copy c =
-    let a = c.args in
-    let p = c.requires in
-    let size : a.sought.head + a.sought.tail * c.loop-m.m + a.sought.tail - (a.sought.head + a.sought.tail * c.loop-m.m) ≡ a.sought.tail = omega arith in
-    turn-taken a.roster.now a.items.now a.wanted.now a.sought a.item a.rows.now (sizes a.roster.now p.fine).high p.lies p.alike
-    c.loop-m.m (omega arith) c.loop-m.rows c.loop-m.invariant p.inside p.cells (omega arith)
-    (sym (rw size at c.is_copy.ensures) ∙ c.if-is_copy.true)
-
-pub loop-m-preserved-else-is_copy : goal.loop-m-preserved-else-is_copy
-loop-m-preserved-else-is_copy c =
-    let a = c.args in
-    let p = c.requires in
-    let size : a.sought.head + a.sought.tail * c.loop-m.m + a.sought.tail - (a.sought.head + a.sought.tail * c.loop-m.m) ≡ a.sought.tail = omega arith in
-    turn-unfit a.roster.now a.items.now a.wanted.now a.sought a.item a.rows.now (sizes a.roster.now p.fine).high p.lies p.alike
-    c.loop-m.m (omega arith) c.loop-m.rows c.loop-m.invariant p.inside (sym (rw size at c.is_copy.ensures) ∙ c.if-is_copy.false)
-
 pub loop-m-preserved : goal.loop-m-preserved
 loop-m-preserved c =
     let a = c.args in
     let p = c.requires in
-    turn-had a.roster.now a.items.now a.wanted.now a.sought a.item a.rows.now (sizes a.roster.now p.fine).high p.lies p.alike
-    c.loop-m.m (omega arith) c.loop-m.rows c.loop-m.invariant (λ e. omega (arith, e))
+    let l = c.loop-m in
+    let size : a.sought.head + a.sought.tail * l.m + a.sought.tail - (a.sought.head + a.sought.tail * l.m) ≡ a.sought.tail = omega arith in
+    let few = (sizes a.roster.now p.fine).high in
+    elim c.if-free.branch [
+      | then-free+then-is_copy w ↦
+          rw w.rows-is
+          (turn-taken a.roster.now a.items.now a.wanted.now a.sought a.item a.rows.now few p.lies p.alike
+          l.m (omega arith) l.rows l.invariant p.inside p.cells (omega (arith, w.if-free.true))
+          (sym (rw size at w.is_copy.ensures) ∙ w.if-is_copy.true))
+      | else-free w ↦
+          rw w.rows-is
+          (elim w.else-free.branch [
+            | else-free-via-then-free+else-is_copy u ↦
+                turn-unfit a.roster.now a.items.now a.wanted.now a.sought a.item a.rows.now few p.lies p.alike
+                l.m (omega arith) l.rows l.invariant p.inside (sym (rw size at u.is_copy.ensures) ∙ u.if-is_copy.false)
+            | else-free-via-else-free u ↦
+                turn-had a.roster.now a.items.now a.wanted.now a.sought a.item a.rows.now few p.lies p.alike
+                l.m (omega arith) l.rows l.invariant (λ e. omega (arith, e, u.if-free.false))
+          ])
+    ]
 
 pub returns : goal.returns
 returns c =

@@ -16,13 +16,13 @@ returns-in_default c =
 pub loop-at-smaller : goal.loop-at-smaller
 loop-at-smaller c =
     let a = c.args in
-    let here = stands a.width a.size a.items.now c.loop-at.at (sym c.read.ensures ∙ c.in-Read.is) in
+    let here = stands a.width a.size a.items.now c.loop-at.at (sym c.read.ensures ∙ c.in-Some.is) in
     omega (arith, here)
 
 pub loop-at-preserved : goal.loop-at-preserved
 loop-at-preserved c =
     let a = c.args in
-    let said = sym c.read.ensures ∙ c.in-Read.is in (
+    let said = sym c.read.ensures ∙ c.in-Some.is in (
       (stands a.width a.size a.items.now c.loop-at.at said).inside,
       sym (whole-next a.width a.size a.items.now c.loop-at.at (omega arith) said) ∙ c.loop-at.invariant.1,
     )

@@ -1,27 +1,32 @@
 -- An item that has no kind byte, one of no kind and one that passes the end are refused; another stands where the code says.
-use mathlib.Core.Path.{sym, ◌∙◌}
+use mathlib.Core.Path.{◌≡◌, ◌∙◌}
+use Prim.Native.Nat.{◌+◌}
 use native.Mathlib.Omega.{arith}
-use borrow.Author.Rules.{rules}
+use lib.ListN.{get_or}
 use Rattle.assembly_items.proofs.Items.{reads, no_kind, no_byte, cut_off}
 use Rattle.assembly_items.proofs.read.Goals as goal
 
-pub returns-then-left-le-STATEMENT_AT : goal.returns-then-left-le-STATEMENT_AT
-returns-then-left-le-STATEMENT_AT c =
+pub returns-in_err-kind : goal.returns-in_err-kind
+returns-in_err-kind c =
     let a = c.args in
-    no_byte a.width a.size a.items.now a.at (omega arith)
+    c.from_residual.ensures ∙ no_byte a.width a.size a.items.now a.at c.in_err-kind.ensures.lookup.3
 
-pub returns-then-bytes-eq0 : goal.returns-then-bytes-eq0
-returns-then-bytes-eq0 c =
+pub returns-in_err-signature : goal.returns-in_err-signature
+returns-in_err-signature c =
     let a = c.args in
-    no_kind a.width a.size a.items.now a.at (sym c.statement_size-bytes.ensures.0 ∙ c.if-bytes-eq0.true)
+    let kind : c.in_ok-kind.field-0.now ≡ get_or a.items.now (a.at + 2) 0 = c.in_ok-kind.ensures.lookup.4 (omega arith) 0 in
+    c.from_residual-in_err-signature.ensures ∙ no_kind a.width a.size a.items.now a.at (rw kind at c.in_err-signature.ensures)
 
-pub returns-then-left-bytes : goal.returns-then-left-bytes
-returns-then-left-bytes c =
+pub returns-then-items-next : goal.returns-then-items-next
+returns-then-items-next c =
     let a = c.args in
-    cut_off a.width a.size a.items.now a.at (omega (arith, c.statement_size-bytes.ensures.0))
+    let kind : c.in_ok-kind.field-0.now ≡ get_or a.items.now (a.at + 2) 0 = c.in_ok-kind.ensures.lookup.4 (omega arith) 0 in
+    let says = rw kind at c.in_ok-signature.ensures in
+    cut_off a.width a.size a.items.now a.at (omega (arith, says.0))
 
 pub returns : goal.returns
 returns c =
     let a = c.args in
-    reads a.width a.size a.items.now a.at c.u16_at.ensures.0 c.statement_size-bytes.ensures.0 c.if-bytes-eq0.false
-    (search rules)
+    let kind : c.in_ok-kind.field-0.now ≡ get_or a.items.now (a.at + 2) 0 = c.in_ok-kind.ensures.lookup.4 (omega arith) 0 in
+    let says = rw kind at c.in_ok-signature.ensures in
+    reads a.width a.size a.items.now a.at c.u16_at-replica.ensures.0 says.0 (λ e. omega (arith, e, says.1)) (omega arith)

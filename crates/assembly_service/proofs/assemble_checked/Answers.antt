@@ -41,16 +41,16 @@ pub written_size-requires : goal.written_size-requires
 written_size-requires c =
     let a = c.args in
     let plan = plan_given a.roster.now a.log.now _ _ _ _ c.signature_size.ensures.0 c.replicas.ensures.0 c.record_size.ensures.0 in
-    let rows = (plan-held a.roster.now a.log.now a.items.now a.output.now c.requires _ _ _ c.take_rows.ensures _ _ c.in-All.is plan).held in
+    let rows = (plan-held a.roster.now a.log.now a.items.now a.output.now c.requires _ _ _ c.take_rows.ensures _ _ c.in-Some.is plan).held in
     (rows.width, rows.size, rows.replicas, rows.few, rows.long)
 
 pub returns-then-output-written_size : goal.returns-then-output-written_size
 returns-then-output-written_size c =
     let a = c.args in
     let plan = plan_given a.roster.now a.log.now _ _ _ _ c.signature_size.ensures.0 c.replicas.ensures.0 c.record_size.ensures.0 in
-    let held = plan-held a.roster.now a.log.now a.items.now a.output.now c.requires _ _ _ c.take_rows.ensures _ _ c.in-All.is plan in
+    let held = plan-held a.roster.now a.log.now a.items.now a.output.now c.requires _ _ _ c.take_rows.ensures _ _ c.in-Some.is plan in
     let it =
-    short-answers a.roster.now a.log.now a.items.now a.output.now c.requires _ _ _ c.take_rows.ensures _ _ c.in-All.is plan
+    short-answers a.roster.now a.log.now a.items.now a.output.now c.requires _ _ _ c.take_rows.ensures _ _ c.in-Some.is plan
     (c.written_size.ensures _ _ _ held) c.if-output-written_size.true c.refused-then-output-written_size.ensures in
     record { number = it.0; length = it.1.0; bytes = it.1.1 }
 
@@ -58,15 +58,15 @@ pub write-length-requires : goal.write-length-requires
 write-length-requires c =
     let a = c.args in
     let plan = plan_given a.roster.now a.log.now _ _ _ _ c.signature_size.ensures.0 c.replicas.ensures.0 c.record_size.ensures.0 in
-    let held = plan-held a.roster.now a.log.now a.items.now a.output.now c.requires _ _ _ c.take_rows.ensures _ _ c.in-All.is plan in
+    let held = plan-held a.roster.now a.log.now a.items.now a.output.now c.requires _ _ _ c.take_rows.ensures _ _ c.in-Some.is plan in
     (held, omega (arith, c.written_size.ensures _ _ _ held, c.if-output-written_size.false))
 
 pub returns : goal.returns
 returns c =
     let a = c.args in
     let plan = plan_given a.roster.now a.log.now _ _ _ _ c.signature_size.ensures.0 c.replicas.ensures.0 c.record_size.ensures.0 in
-    let held = plan-held a.roster.now a.log.now a.items.now a.output.now c.requires _ _ _ c.take_rows.ensures _ _ c.in-All.is plan in
+    let held = plan-held a.roster.now a.log.now a.items.now a.output.now c.requires _ _ _ c.take_rows.ensures _ _ c.in-Some.is plan in
     let it =
-    written-answers a.roster.now a.log.now a.items.now a.output.now c.requires _ _ _ c.take_rows.ensures _ _ c.in-All.is plan
+    written-answers a.roster.now a.log.now a.items.now a.output.now c.requires _ _ _ c.take_rows.ensures _ _ c.in-Some.is plan
     (c.written_size.ensures _ _ _ held) (omega (arith, c.if-output-written_size.false)) c.write-length.ensures.size c.write-length.ensures.bytes in
     record { number = it.0; length = it.1.0; bytes = it.1.1 }

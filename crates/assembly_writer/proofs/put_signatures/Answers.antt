@@ -8,9 +8,9 @@ use Rattle.assembly_writer.proofs.put_signatures.Goals as goal
 pub loop-k-init : goal.loop-k-init
 loop-k-init c = parts_none _ _ _
 
-pub put_signature-written-requires : goal.put_signature-written-requires
+pub put_signature-at-requires : goal.put_signature-at-requires
 unfolding Placed
-put_signature-written-requires c =
+put_signature-at-requires c =
     let l = c.loop-k in
     (c.requires.0.inside l.k (omega arith), part_room _ _ _ c.requires.1 l.invariant (omega arith))
 
@@ -18,12 +18,12 @@ pub overflow_add-at : goal.overflow_add-at
 overflow_add-at c =
     let l = c.loop-k in
     let less : l.k < c.args.n = omega arith in
-    omega (arith, part-inside _ _ _ c.requires.1 l.invariant less, c.put_signature-written.ensures.size)
+    omega (arith, part-inside _ _ _ c.requires.1 l.invariant less, c.put_signature-at.ensures.size)
 
 pub loop-k-preserved : goal.loop-k-preserved
 loop-k-preserved c =
     let l = c.loop-k in
-    part_put _ _ _ c.requires.1 l.invariant (omega arith) c.put_signature-written.ensures.size c.put_signature-written.ensures.bytes
+    part_put _ _ _ c.requires.1 l.invariant (omega arith) c.put_signature-at.ensures.size c.put_signature-at.ensures.bytes
 
 pub shape_of-out : goal.shape_of-out
 shape_of-out c = c.loop-k.invariant.2

@@ -1,5 +1,4 @@
 -- A signature a turn, into the rest of the buffer.
-use Prim.Native.Nat.{◌-◌}
 use lib.ListN.{get_or}
 use Rattle.assembly_writer.specs.Parts.{signature_at}
 use Rattle.assembly_writer.proofs.Joined.{PartsPut}
@@ -7,6 +6,3 @@ use Rattle.assembly_writer.proofs.put_signatures.Given as goal
 
 abbrev pub invariant-loop-k : goal.invariant-loop-k
 invariant-loop-k l = PartsPut (λ j. signature_at l.size l.items (get_or l.places j 0)) l.initial.out l.n l.k l.at l.out
-
-abbrev pub decreases-loop-k : goal.decreases-loop-k
-decreases-loop-k l = l.n - l.k

@@ -7,8 +7,8 @@ use Rattle.assembly_writer.proofs.put_stamps.Goals as goal
 pub loop-t-init : goal.loop-t-init
 loop-t-init c = parts_none _ _ _
 
-pub put_signature-written-requires : goal.put_signature-written-requires
-put_signature-written-requires c =
+pub put_signature-at-requires : goal.put_signature-at-requires
+put_signature-at-requires c =
     let l = c.loop-t in
     let less : l.t < c.args.plan.leaders = omega arith in
     (c.requires.0.inside l.t 1 (omega arith) (omega arith) (omega arith), part_room _ _ _ c.requires.1 l.invariant less)
@@ -17,13 +17,13 @@ pub overflow_add-at : goal.overflow_add-at
 overflow_add-at c =
     let l = c.loop-t in
     let less : l.t < c.args.plan.leaders = omega arith in
-    omega (arith, part-inside _ _ _ c.requires.1 l.invariant less, c.put_signature-written.ensures.size)
+    omega (arith, part-inside _ _ _ c.requires.1 l.invariant less, c.put_signature-at.ensures.size)
 
 pub loop-t-preserved : goal.loop-t-preserved
 loop-t-preserved c =
     let l = c.loop-t in
     let less : l.t < c.args.plan.leaders = omega arith in
-    part_put _ _ _ c.requires.1 l.invariant less c.put_signature-written.ensures.size c.put_signature-written.ensures.bytes
+    part_put _ _ _ c.requires.1 l.invariant less c.put_signature-at.ensures.size c.put_signature-at.ensures.bytes
 
 pub shape_of-out : goal.shape_of-out
 shape_of-out c = c.loop-t.invariant.2

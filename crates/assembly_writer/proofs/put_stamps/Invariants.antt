@@ -1,5 +1,5 @@
 -- A stamp a turn, into the rest of the buffer.
-use Prim.Native.Nat.{◌+◌, ◌-◌, ◌*◌}
+use Prim.Native.Nat.{◌+◌, ◌*◌}
 use lib.ListN.{get_or}
 use Rattle.assembly_copies.specs.Rows.{taken_size}
 use Rattle.assembly_writer.specs.Parts.{signature_at}
@@ -8,7 +8,4 @@ use Rattle.assembly_writer.proofs.put_stamps.Given as goal
 
 abbrev pub invariant-loop-t : goal.invariant-loop-t
 invariant-loop-t l =
-    PartsPut (λ j. signature_at l.size l.items (get_or l.taken (taken_size * j + 1) 0)) l.initial.out l.leaders l.t l.at l.out
-
-abbrev pub decreases-loop-t : goal.decreases-loop-t
-decreases-loop-t l = l.leaders - l.t
+    PartsPut (λ j. signature_at l.plan.size l.items (get_or l.taken (taken_size * j + 1) 0)) l.initial.out l.plan.leaders l.t l.at l.out

@@ -17,7 +17,7 @@ pub returns-in_default : goal.returns-in_default
 unfolding accepted answer_of
 returns-in_default c =
     let told = sym c.validate-validation.ensures.outcome ∙ c.in_default.is in
-    rw (told, ← c.find-found.ensures) record { number = c.write_accepted.ensures.number; bytes = c.write_accepted.ensures.bytes }
+    rw (told, ← c.find-found.ensures.findings) record { number = c.write_accepted.ensures.number; bytes = c.write_accepted.ensures.bytes }
 
 pub returns : goal.returns
 unfolding answer_of

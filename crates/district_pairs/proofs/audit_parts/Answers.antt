@@ -18,9 +18,12 @@ find-requires c =
       rw (part_from b a.b.start a.b.size) c.requires.2.pointed,
     )
 
-pub returns : goal.returns
+pub returns-clause-findings : goal.returns-clause-findings
 unfolding entry_of entry pair found
-returns c =
+returns-clause-findings c =
     let a = c.args in
     let b = a.buffer.now in
-    rw (← part_from b a.a.start a.a.size, ← part_from b a.b.start a.b.size) c.find.ensures
+    rw (← part_from b a.a.start a.a.size, ← part_from b a.b.start a.b.size) c.find.ensures.findings
+
+pub returns-clause-fork : goal.returns-clause-fork
+returns-clause-fork c = c.find.ensures.fork

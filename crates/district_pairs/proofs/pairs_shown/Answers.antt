@@ -1,7 +1,6 @@
 -- From the last accepted submission down: what the pairs of those from `i` on show.
 use mathlib.Core.Path.{◌≡◌, ap, ◌∙◌}
 use Prim.Native.Nat.{ℕ, suc, ◌-◌, ◌≤◌}
-use native.Mathlib.Nat.{le_refl}
 use native.Mathlib.Omega.{arith}
 use lib.ListN.{length, drop}
 use Rattle.district.specs.District.{pairs, union, first_fork, shown}
@@ -14,7 +13,7 @@ unfolding shown union first_fork pairs
 loop-i-init c =
     let e = c.args.entries in
     let whole : e.count ≤ length e.parts = omega (arith, c.requires.room.places, c.requires.room.taken) in
-    (le_refl e.count, rw (entries-end e whole c.args.buffer.now))
+    rw (entries-end e whole c.args.buffer.now)
 
 pub pairs_with-shown-requires : goal.pairs_with-shown-requires
 pairs_with-shown-requires c =
@@ -22,16 +21,16 @@ pairs_with-shown-requires c =
     let a = c.args in
     let again : l.i ≡ suc (l.i - 1) = omega arith in (
       c.requires,
-      omega (arith, l.invariant.0),
-      l.invariant.1 ∙ ap (λ (k : ℕ). shown a.roster.now (pairs (drop k (entries_of a.buffer.now a.entries)))) again,
+      omega arith,
+      l.invariant ∙ ap (λ (k : ℕ). shown a.roster.now (pairs (drop k (entries_of a.buffer.now a.entries)))) again,
     )
 
 pub loop-i-preserved : goal.loop-i-preserved
-loop-i-preserved c = (omega (arith, c.loop-i.invariant.0), c.pairs_with-shown.ensures)
+loop-i-preserved c = c.pairs_with-shown.ensures
 
 pub returns : goal.returns
 returns c =
     let l = c.loop-i in
     let a = c.args in
     let end : l.i ≡ 0 = omega arith in
-    l.invariant.1 ∙ ap (λ (k : ℕ). shown a.roster.now (pairs (drop k (entries_of a.buffer.now a.entries)))) end
+    l.invariant ∙ ap (λ (k : ℕ). shown a.roster.now (pairs (drop k (entries_of a.buffer.now a.entries)))) end

@@ -7,7 +7,4 @@ use Rattle.district_pairs.specs.Entries.{entries_of}
 use Rattle.district_pairs.proofs.pairs_shown.Given as goal
 
 abbrev pub invariant-loop-i : goal.invariant-loop-i
-invariant-loop-i l = (l.i ≤ l.entries.count) × (l.shown ≡ shown l.roster (pairs (drop l.i (entries_of l.buffer l.entries))))
-
-abbrev pub decreases-loop-i : goal.decreases-loop-i
-decreases-loop-i l = l.i
+invariant-loop-i l = l.shown ≡ shown l.roster (pairs (drop l.i (entries_of l.buffer l.entries)))

@@ -23,20 +23,20 @@ loop-j-init c =
     let a = c.args in
     let held = c.requires.0 in
     let whole : a.entries.count ≤ length a.entries.parts = omega (arith, held.room.places, held.room.taken) in
-    (c.requires.1, le_refl a.entries.count, c.requires.2 ∙ with_none a.roster.now a.buffer.now a.entries whole _ a.i)
+    (c.requires.1, c.requires.2 ∙ with_none a.roster.now a.buffer.now a.entries whole _ a.i)
 
-pub overflow_add-i : goal.overflow_add-i
-overflow_add-i c =
+pub overflow_add-j-start : goal.overflow_add-j-start
+overflow_add-j-start c =
     let low : c.args.i < 9 = omega (arith, c.requires.1, c.requires.0.room.taken) in search rules
 
 -- and so is j, when it has been lowered
 pub offset_bounds-parts-j : goal.offset_bounds-parts-j
 offset_bounds-parts-j c =
-    let low : c.loop-j.j - 1 < 9 = omega (arith, c.loop-j.invariant.0, c.loop-j.invariant.1, c.requires.0.room.taken) in search rules
+    let low : c.loop-j.j - 1 < 9 = omega (arith, c.loop-j.invariant.0, c.loop-j.auto.j, c.requires.0.room.taken) in search rules
 
 pub bounds-parts-j : goal.bounds-parts-j
 bounds-parts-j c =
-    omega (arith, c.loop-j.invariant.0, c.loop-j.invariant.1, c.requires.0.room.taken)
+    omega (arith, c.loop-j.invariant.0, c.loop-j.auto.j, c.requires.0.room.taken)
 
 pub audit_parts-found-requires : goal.audit_parts-found-requires
 audit_parts-found-requires c =
@@ -44,8 +44,11 @@ audit_parts-found-requires c =
     let e = c.args.entries in
     let held = c.requires.0 in
     let whole : e.count ≤ length e.parts = omega (arith, held.room.places, held.room.taken) in
-    let below : l.j - 1 < e.count = omega (arith, l.invariant.0, l.invariant.1) in
+    let below : l.j - 1 < e.count = omega (arith, l.invariant.0, l.auto.j) in
     (held.fine, held.fit _ (part_at e whole c.args.i _ c.requires.1), held.fit _ (part_at e whole (l.j - 1) _ below))
+
+pub with_pair-shown-requires : goal.with_pair-shown-requires
+with_pair-shown-requires c = c.audit_parts-found.ensures.fork
 
 pub loop-j-preserved : goal.loop-j-preserved
 unfolding entry_of entry
@@ -57,9 +60,8 @@ loop-j-preserved c =
     let whole : e.count ≤ length e.parts = omega (arith, held.room.places, held.room.taken) in
     let low : 0 < l.j = omega (arith, l.invariant.0) in (
       omega (arith, c.loop-j-test),
-      omega (arith, l.invariant.1),
       c.with_pair-shown.ensures
-          ∙ with-turn a.roster.now a.buffer.now e whole _ a.i l.j _ _ l.shown low l.invariant.1 l.invariant.2 c.audit_parts-found.ensures,
+          ∙ with-turn a.roster.now a.buffer.now e whole _ a.i l.j _ _ l.shown low l.auto.j l.invariant.1 c.audit_parts-found.ensures.findings,
     )
 
 pub returns : goal.returns
@@ -69,5 +71,5 @@ returns c =
     let held = c.requires.0 in
     let whole : a.entries.count ≤ length a.entries.parts = omega (arith, held.room.places, held.room.taken) in
     let end : l.j ≡ suc a.i = omega (arith, l.invariant.0) in
-    l.invariant.2 ∙ ap (with_one a.roster.now a.buffer.now a.entries _ a.i) end
+    l.invariant.1 ∙ ap (with_one a.roster.now a.buffer.now a.entries _ a.i) end
     ∙ with_all a.roster.now a.buffer.now a.entries whole a.i _ c.requires.1

@@ -9,7 +9,4 @@ use Rattle.district_pairs.proofs.pairs_with.Given as goal
 abbrev pub invariant-loop-j : goal.invariant-loop-j
 invariant-loop-j l =
     let e : Entries = record { count = l.initial.j; parts = l.parts } in
-    (l.i < l.j) × (l.j ≤ l.initial.j) × (l.shown ≡ with_one l.roster l.buffer e (entry_of l.buffer l.a) l.i l.j)
-
-abbrev pub decreases-loop-j : goal.decreases-loop-j
-decreases-loop-j l = l.j
+    (l.i < l.j) × (l.shown ≡ with_one l.roster l.buffer e (entry_of l.buffer l.a) l.i l.j)

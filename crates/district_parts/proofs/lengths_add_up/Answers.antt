@@ -2,31 +2,27 @@
 use mathlib.Core.Path.{◌≡◌, refl, sym, ◌∙◌}
 use Prim.Native.Nat.{suc, ◌+◌}
 use native.Mathlib.Omega.{arith}
-use borrow.Author.Rules.{rules}
 use Rattle.district_parts.specs.Parts.{adds_up}
 use Rattle.district_parts.proofs.Sums.{too_long_lem, taken, all-taken}
 use Rattle.district_parts.proofs.lengths_add_up.Goals as goal
 
-pub loop-i-init : goal.loop-i-init
+pub loop-size-init : goal.loop-size-init
 unfolding adds_up
-loop-i-init c = (omega arith, refl)
+loop-size-init c = refl
 
-pub overflow_cast-size : goal.overflow_cast-size
-overflow_cast-size c = let f = c.type_inv.lengths c.loop-i.i in search (rules, f)
+pub returns-in_default : goal.returns-in_default
+returns-in_default c =
+    let l = c.loop-size in
+    sym (too_long_lem c.args.lengths.now l.size-index l.left c.loop-size-test.true (omega (arith, c.in_default.ensures))) ∙ l.invariant
 
-pub returns-then-left-size : goal.returns-then-left-size
-returns-then-left-size c =
-    let l = c.loop-i in
-    sym (too_long_lem c.args.lengths.now l.i l.left (search rules) (search rules)) ∙ l.invariant.1
-
-pub loop-i-preserved : goal.loop-i-preserved
-loop-i-preserved c =
-    let l = c.loop-i in
-    let lengths = c.args.lengths.now in
-    let next : suc l.i ≡ l.i + 1 = omega arith in
-    (omega arith, rw (← next) (taken lengths l.i l.left (search rules) (search rules)) ∙ l.invariant.1)
+pub loop-size-preserved : goal.loop-size-preserved
+loop-size-preserved c =
+    let l = c.loop-size in
+    let rest = c.in-Some.ensures in
+    let next : suc l.size-index ≡ l.size-index + 1 = omega arith in
+    rw (rest.1, ← next) (taken c.args.lengths.now l.size-index l.left c.loop-size-test.true rest.0 ∙ l.invariant)
 
 pub returns : goal.returns
 returns c =
-    let l = c.loop-i in
-    all-taken c.args.lengths.now l.i l.left (omega arith) ∙ l.invariant.1
+    let l = c.loop-size in
+    all-taken c.args.lengths.now l.size-index l.left c.loop-size-test.false ∙ l.invariant

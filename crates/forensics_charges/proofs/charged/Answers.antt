@@ -1,9 +1,13 @@
 -- A broken rule is the one charge; no rule broken is none.
-use Rattle.forensics_charges.proofs.Rows.{charged-one, charged-none}
+use Rattle.replica.specs.Charges.{charge}
+use Rattle.forensics.specs.Findings.{lower, lowest}
+use Rattle.forensics_charges.specs.Charges.{meaning, charge_of}
 use Rattle.forensics_charges.proofs.charged.Goals as goal
 
 pub returns-then-broken : goal.returns-then-broken
-returns-then-broken c = charged-one _ _ c.if-broken.true c.requires
+unfolding charge_of meaning charge lower lowest
+returns-then-broken c = rw (c.if-broken.true, c.number.ensures)
 
-pub returns : goal.returns
-returns c = charged-none _ _ c.unnamed_row.ensures c.if-broken.false
+pub returns-else-broken : goal.returns-else-broken
+unfolding charge_of charge lowest
+returns-else-broken c = rw c.if-broken.false

@@ -1,22 +1,24 @@
 -- A row that names nobody leaves it to the other; of two that do, the order of ranks and terms decides.
 use mathlib.Core.Path.{sym, ◌∙◌}
-use Rattle.forensics_charges.proofs.Rows.{first-none, second_none, ranks, second-lower, first-lower}
+use Rattle.forensics.specs.Findings.{lower}
+use Rattle.forensics_charges.specs.Charges.{least, charge_of}
+use Rattle.forensics_charges.proofs.Lowest.{least-none}
 use Rattle.forensics_charges.proofs.lower_row.Goals as goal
 
-pub returns-then-x-eq0 : goal.returns-then-x-eq0
-returns-then-x-eq0 c = first-none _ _ c.if-x-eq0.true
+pub returns-then-sooner : goal.returns-then-sooner
+unfolding least lower charge_of
+returns-then-sooner c =
+    rw (c.in-Some-Some.is-0, c.in-Some-Some.is-1, sym c.sooner.ensures ∙ c.if-sooner.true)
 
-pub returns-then-y-eq0 : goal.returns-then-y-eq0
-returns-then-y-eq0 c = second_none _ _ c.if-x-eq0.false c.if-y-eq0.true
+pub returns-else-sooner : goal.returns-else-sooner
+unfolding least lower charge_of
+returns-else-sooner c =
+    rw (c.in-Some-Some.is-0, c.in-Some-Some.is-1, sym c.sooner.ensures ∙ c.if-sooner.false)
 
-pub returns-then-end_staler : goal.returns-then-end_staler
-returns-then-end_staler c =
-    let order = ranks _ _ _ _ c.rank.ensures c.rank-2.ensures in
-    second-lower _ _ c.if-x-eq0.false c.if-y-eq0.false
-    (sym order ∙ sym c.end_staler.ensures ∙ c.if-end_staler.true)
+pub returns-in_default-None : goal.returns-in_default-None
+unfolding charge_of
+returns-in_default-None c = rw c.in_default-None.is-1 (sym (least-none (charge_of c.args.x)))
 
-pub returns : goal.returns
-returns c =
-    let order = ranks _ _ _ _ c.rank.ensures c.rank-2.ensures in
-    first-lower _ _ c.if-x-eq0.false c.if-y-eq0.false
-    (sym order ∙ sym c.end_staler.ensures ∙ c.if-end_staler.false)
+pub returns-in-None-default : goal.returns-in-None-default
+unfolding least charge_of
+returns-in-None-default c = rw c.in-None-default.is-0

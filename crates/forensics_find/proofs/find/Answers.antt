@@ -50,9 +50,9 @@ leaf_rows-rows-requires c =
       side_known a.roster.now a.b.now _ p.0 second (c.shape_of-2.ensures ∙ ap (λ (S : ℕ). shape_of 4 S a.b.now) size) p.4,
     )
 
-pub returns : goal.returns
+pub returns-clause-findings : goal.returns-clause-findings
 unfolding form_of version1
-returns c =
+returns-clause-findings c =
     let a = c.args in
     let p = c.requires in
     let size = c.signature_size-size.ensures.0 in
@@ -61,4 +61,7 @@ returns c =
     found-is a.roster.now a.a.now a.b.now first second _ _
     (c.shape_of.ensures ∙ ap (λ (S : ℕ). shape_of 4 S a.a.now) size)
     (c.shape_of-2.ensures ∙ ap (λ (S : ℕ). shape_of 4 S a.b.now) size) _ _
-    (rw size at c.found-ruled.ensures) c.leaf_rows-rows.ensures
+    (rw size at c.found-ruled.ensures.findings) c.leaf_rows-rows.ensures
+
+pub returns-clause-fork : goal.returns-clause-fork
+returns-clause-fork c = c.found-ruled.ensures.fork

@@ -1,6 +1,7 @@
 -- The fork and the rows from the first difference of the logs and the receipts.
 use native.Mathlib.Omega.{arith}
 use Rattle.submission_parts.proofs.Inside.{records-inside}
+use Rattle.forensics_find.proofs.Reached.{index_above}
 use Rattle.forensics_find.proofs.Shown.{read-says}
 use Rattle.forensics_find.proofs.found.Goals as goal
 
@@ -10,8 +11,8 @@ record_count-requires c = c.requires.0.long
 pub record_count-requires-2 : goal.record_count-requires-2
 record_count-requires-2 c = c.requires.3.long
 
-pub difference-difference-requires : goal.difference-difference-requires
-difference-difference-requires c =
+pub difference-index-requires : goal.difference-index-requires
+difference-index-requires c =
     let a = c.args in
     let p = c.requires in
     rw (c.record_count.ensures.0, c.record_count-2.ensures.0)
@@ -26,10 +27,14 @@ receipts_of-second-requires c = let p = c.requires in (p.3, p.4, p.5)
 pub rows-requires : goal.rows-requires
 rows-requires c = let p = c.requires in (p.0, p.1, p.3, p.4)
 
-pub returns : goal.returns
-returns c =
+pub returns-clause-findings : goal.returns-clause-findings
+returns-clause-findings c =
     let a = c.args in
-    read-says a.width a.size a.a.now a.b.now _ _ c.difference-difference.ensures
+    read-says a.width a.size a.a.now a.b.now _ _ c.difference-index.ensures
     c.record_count.ensures.0
     c.record_count-2.ensures.0
-    c.receipts_of-first.ensures c.receipts_of-second.ensures c.fork.ensures c.rows.ensures
+    c.receipts_of-first.ensures c.receipts_of-second.ensures (rw c.differing-difference.ensures at c.fork.ensures.index)
+    (rw c.differing-difference.ensures at c.rows.ensures)
+
+pub returns-clause-fork : goal.returns-clause-fork
+returns-clause-fork c = c.fork.ensures.from_one (rw c.differing-difference.ensures (index_above c.difference-index.result))

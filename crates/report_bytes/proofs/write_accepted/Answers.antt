@@ -6,4 +6,4 @@ use Rattle.report_bytes.proofs.write_accepted.Goals as goal
 
 pub returns : goal.returns
 unfolding accepted answered findings_of
-returns c = record { number = refl; bytes = c.put_report.ensures }
+returns c = record { number = refl; bytes = rw c.unwrap_or.ensures at c.put_report.ensures }

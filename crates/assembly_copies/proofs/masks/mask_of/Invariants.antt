@@ -1,7 +1,7 @@
 -- One place a turn, from the last one down: the mask so far is that of the places passed, and has a bit for each.
 use mathlib.Core.Path.{◌≡◌}
 use mathlib.Core.List.{List}
-use Prim.Native.Nat.{ℕ, ◌-◌, ◌^◌, ◌≤◌, ◌<◌}
+use Prim.Native.Nat.{ℕ, ◌-◌, ◌^◌, ◌<◌}
 use lib.ListN.{drop}
 use Rattle.submission_encoding.specs.Copies.{signers_of}
 use Rattle.assembly_copies.specs.Rows.{copies_at}
@@ -9,7 +9,4 @@ use Rattle.assembly_copies.proofs.masks.mask_of.Given as goal
 
 abbrev pub invariant-loop-k : goal.invariant-loop-k
 invariant-loop-k l =
-    (l.k ≤ l.n) × (l.mask < 2 ^ (l.n - l.k)) × ((S : ℕ) (item_bytes : List ℕ) → l.mask ≡ signers_of (copies_at S item_bytes (l.n - l.k) (drop l.k l.places)))
-
-abbrev pub decreases-loop-k : goal.decreases-loop-k
-decreases-loop-k l = l.k
+    (l.mask < 2 ^ (l.n - l.k)) × ((S : ℕ) (item_bytes : List ℕ) → l.mask ≡ signers_of (copies_at S item_bytes (l.n - l.k) (drop l.k l.places)))

@@ -1,12 +1,9 @@
 -- Terms that are equal leave it to the indexes.
-use borrow.Author.Tests.{eq-eqb, ne_eqb}
+use native.Mathlib.Omega.{arith}
+use Rattle.std.proofs.lemmas.Bool.Decides.{nat_tests}
 use Rattle.log_chain.specs.Ends.{staler}
 use Rattle.forensics_charges.proofs.rules.end_staler.Goals as goal
 
-pub returns-then-t-u : goal.returns-then-t-u
-unfolding staler
-returns-then-t-u c = rw (eq-eqb _ _ c.if-t-u.true)
-
 pub returns : goal.returns
 unfolding staler
-returns c = rw (ne_eqb _ _ c.if-t-u.false)
+returns c = rw c.lt.ensures (grind (arith, nat_tests))

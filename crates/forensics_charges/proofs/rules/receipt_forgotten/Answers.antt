@@ -1,17 +1,16 @@
--- Each test that fails ends the rule, and the last decides.
+-- The signers first, and then the vote.
 use mathlib.Core.Path.{sym, ◌∙◌}
-use Rattle.forensics_charges.proofs.Broken.{no-receipt, not-higher, by-staler}
+use mathlib.Core.List.{[], ◌∷◌}
+use Rattle.forensics_charges.specs.Rules.{forgotten}
+use Rattle.forensics_charges.proofs.Broken.{part-fails, part-holds}
 use Rattle.forensics_charges.proofs.rules.receipt_forgotten.Goals as goal
 
-pub returns-then-not-both_signed : goal.returns-then-not-both_signed
-returns-then-not-both_signed c = no-receipt _ _ _ (sym c.both_signed.ensures ∙ c.if-not-both_signed.true)
+pub returns-then-both_signed : goal.returns-then-both_signed
+unfolding forgotten
+returns-then-both_signed c =
+    part-holds (_ ∷ _ ∷ []) _ (sym c.both_signed.ensures ∙ c.if-both_signed.true) c.stale_vote.ensures
 
-pub returns-then-y-given : goal.returns-then-y-given
-returns-then-y-given c =
-    let signs = sym c.both_signed.ensures ∙ c.if-not-both_signed.false in
-    not-higher _ _ _ signs c.if-y-given.true
-
-pub returns : goal.returns
-returns c =
-    let signs = sym c.both_signed.ensures ∙ c.if-not-both_signed.false in
-    c.end_staler.ensures ∙ by-staler _ _ _ signs c.if-y-given.false
+pub returns-else-both_signed : goal.returns-else-both_signed
+unfolding forgotten
+returns-else-both_signed c =
+    part-fails (_ ∷ _ ∷ []) _ c.if-both_signed.false (sym c.both_signed.ensures ∙ c.if-both_signed.false)

@@ -3,22 +3,20 @@ use mathlib.Core.Path.{◌≡◌, refl, sym, ap₂, ◌∙◌}
 use mathlib.Core.List.{List}
 use Prim.Native.Nat.{ℕ, ◌+◌, ◌-◌}
 use native.Mathlib.Omega.{arith}
-use lib.ListN.{get_or, length-replicate}
-use Rattle.forensics_charges.specs.declared.Row.{Row}
-use Rattle.forensics_charges.specs.Charges.{rows_by, least, charge_of, row_at}
+use lib.ListN.{get_or}
+use Rattle.std.specs.Prelude.{None}
+use Rattle.forensics_charges.specs.Charges.{Row, rows_by, least, charge_of, row_at}
 use Rattle.forensics_find.proofs.Replicas.{fill, filled}
 use Rattle.forensics_find.proofs.leaves.leaf_rows.Goals as goal
 
 -- the row of replica i + 1 stands at place i
-row_here : (rows : List Row) (i : ℕ) → charge_of (get_or rows i (record { rule = 0; term = 0 })) ≡ row_at rows (i + 1)
+row_here : (rows : List Row) (i : ℕ) → charge_of (get_or rows i None) ≡ row_at rows (i + 1)
 unfolding row_at
 row_here rows i = let place : i + 1 - 1 ≡ i = omega arith in rw place
 
 pub loop-i-init : goal.loop-i-init
 unfolding rows_by
-loop-i-init c =
-    let zero-byte : ℕ = 0 in
-    (record { few = omega arith; long = refl; done = refl }, length-replicate 19608 zero-byte)
+loop-i-init c = (record { few = omega arith; long = refl; done = refl }, refl)
 
 pub slice_bounds-replica_row-end : goal.slice_bounds-replica_row-end
 slice_bounds-replica_row-end c = sym c.loop-i.invariant.1

@@ -1,61 +1,8 @@
 -- One term of the first submission a turn.
-use native.Mathlib.Omega.{arith}
+use borrow.Author.Rules.{rules}
 use Rattle.forensics_charges.specs.Charges.{among_terms}
-use Rattle.forensics_find.proofs.Left.{rows_all, first-inside, next-inside, rows_next, rows-done, end-inside}
 use Rattle.forensics_find.proofs.rows.among_terms.Goals as goal
 
-pub leader_count-left-requires : goal.leader_count-left-requires
-leader_count-left-requires c = c.requires.1.long
-
-pub leaders_from-at-requires : goal.leaders_from-at-requires
-leaders_from-at-requires c =
-    let p = c.requires.1 in
-    (p.long, p.records, p.width)
-
-pub loop-left-init : goal.loop-left-init
-unfolding among_terms
-loop-left-init c =
-    rows_all c.args.width c.args.size c.args.a.now _ c.requires.2 c.unnamed_row-best.ensures
-    c.leader_count-left.ensures.0 c.leaders_from-at.ensures
-
-pub certificate_end-next-requires : goal.certificate_end-next-requires
-certificate_end-next-requires c =
-    let a = c.args in
-    let l = c.loop-left in
-    (c.requires.1.width, end-inside a.width a.size a.a.now _ _ l.left l.at l.invariant (omega arith))
-
-pub tenure_at-x-requires : goal.tenure_at-x-requires
-tenure_at-x-requires c =
-    let a = c.args in
-    let l = c.loop-left in
-    let p = c.requires.1 in (
-      p.long,
-      p.short,
-      p.width,
-      first-inside a.width a.size a.a.now _ _ l.left l.at l.invariant (omega arith),
-      next-inside a.width a.size a.a.now _ _ l.left l.at l.invariant (omega arith) c.certificate_end-next.ensures,
-    )
-
-pub against-requires : goal.against-requires
-against-requires c =
-    let p = c.requires in
-    (p.0, p.3, p.4)
-
-pub overflow_sub-left-in-loop-left : goal.overflow_sub-left-in-loop-left
-overflow_sub-left-in-loop-left c = omega (arith, c.loop-left-test.true)
-
-pub loop-left-smaller : goal.loop-left-smaller
-loop-left-smaller c = omega (arith, c.loop-left-test.true)
-
-pub loop-left-preserved : goal.loop-left-preserved
-loop-left-preserved c =
-    let a = c.args in
-    let l = c.loop-left in
-    rows_next a.width a.size a.a.now _ _ l.left l.at l.invariant (omega (arith, c.loop-left-test.true))
-    c.certificate_end-next.ensures c.tenure_at-x.ensures c.against.ensures c.lower_row-best.ensures
-
 pub returns : goal.returns
-returns c =
-    let a = c.args in
-    let l = c.loop-left in
-    rows-done a.width a.size a.a.now _ _ l.left l.at l.invariant (omega arith)
+unfolding among_terms
+returns c = search rules

@@ -12,13 +12,10 @@ loop-i-init c = record { few = omega arith; long = refl; done = refl }
 pub row-requires : goal.row-requires
 row-requires c = let p = c.requires in (omega arith, p.0, p.1, p.2, p.3)
 
-pub bounds-out-i : goal.bounds-out-i
-bounds-out-i c = omega (arith, c.loop-i.invariant.long)
-
 pub loop-i-preserved : goal.loop-i-preserved
 loop-i-preserved c =
-    fill _ c.loop-i.out c.loop-i.i _ c.loop-i.invariant c.loop-i-test.true
+    fill _ c.loop-i.place-items c.loop-i.i _ c.loop-i.invariant c.loop-i-test.true
     c.row.ensures
 
 pub returns : goal.returns
-returns c = filled _ c.loop-i.out c.loop-i.i c.loop-i.invariant c.loop-i-test.false
+returns c = filled _ c.loop-i.place-items c.loop-i.i c.loop-i.invariant c.loop-i-test.false

@@ -1,5 +1,4 @@
 -- One replica a turn: the rows of the replicas before it are done.
-use Prim.Native.Nat.{◌-◌}
 use Rattle.forensics.specs.Findings.{lowest}
 use Rattle.forensics_charges.specs.Charges.{ruled_by}
 use Rattle.forensics_find.specs.Tenures.{tenures_of}
@@ -8,7 +7,4 @@ use Rattle.forensics_find.proofs.rows.rows.Given as goal
 
 abbrev pub invariant-loop-i : goal.invariant-loop-i
 invariant-loop-i l =
-    Filled (λ k. lowest (ruled_by k l.difference (tenures_of l.width l.size l.a) (tenures_of l.width l.size l.b) l.first l.second)) l.out l.i
-
-abbrev pub decreases-loop-i : goal.decreases-loop-i
-decreases-loop-i l = 9 - l.i
+    Filled (λ k. lowest (ruled_by k l.difference (tenures_of l.width l.size l.a) (tenures_of l.width l.size l.b) l.first l.second)) l.place-items l.i
