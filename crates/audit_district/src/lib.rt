@@ -26,15 +26,13 @@ fn judge(roster: &[u8], buffer: &[u8], lengths: &[u32], report: &mut [u8]) -> En
 {
     let mut entries = district_pairs::no_entries();
     let mut at = 0;
-    let mut i = 0;
-    while i < lengths.len() {
-        let size = lengths[i] as usize;
+    for (i, length) in lengths.iter().enumerate() {
+        let size = *length as usize;
         let end = at + size;
         let validated = submission_checks::validate_submission(roster, &buffer[at..end]);
         words::put_u8(report, i, validated.number);
         entries = district_pairs::with_judged(entries, validated, i, at, size);
         at = end;
-        i += 1;
     }
     entries
 }
