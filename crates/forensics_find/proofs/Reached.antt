@@ -7,7 +7,7 @@ use Prim.Native.Nat.{ℕ, zero, suc, ◌≤◌, ◌<◌}
 use native.Mathlib.Omega.{arith}
 use borrow.Author.Tests.{lt-ltb, le-leb, lt-leb}
 use lib.Dec.{leb, ltb}
-use Rattle.std.specs.Prelude.{Option, unwrap_or, IfSome}
+use Rattle.std.specs.Prelude.{Option, None, Some, unwrap_or, IfSome}
 use Rattle.refusal.specs.Checks.{all}
 use Rattle.forensics_charges.specs.declared.Receipt.{Receipt}
 use Rattle.forensics_charges.specs.Rules.{reached}
@@ -23,10 +23,11 @@ unfolding difference_of
 index_again zero = refl
 index_again (suc d) = refl
 
-pub index_above : (d : ℕ) → IfSome (difference_of d) (λ index. 0 < index)
+pub index_kept : (d : Option ℕ) → IfSome d (λ index. 0 < index) → d ≡ difference_of (unwrap_or d 0)
 unfolding difference_of
-index_above zero = tt
-index_above (suc d) = omega arith
+index_kept None above = refl
+index_kept (Some zero) above = absurd (omega arith)
+index_kept (Some (suc i)) above = refl
 
 -- ---- an index against two others
 

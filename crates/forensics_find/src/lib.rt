@@ -44,13 +44,6 @@ fn fork(difference: Option<usize>, first: Option<Receipt>, second: Option<Receip
     }
 }
 
-// The index of a difference, where there is one.
-fn differing(index: usize) -> Option<usize>
-    ensures { result ≡ inner.difference_of index }
-{
-    if index == 0 { None } else { Some(index) }
-}
-
 // The fork index and the rows of two laid-out submissions, by rules 1 to 4.
 fn found(a: &[u8], b: &[u8], width: usize, size: usize) -> Findings
     requires { Bounds width size a.now × (laid_out width size a.now ≡ true)
@@ -60,14 +53,13 @@ fn found(a: &[u8], b: &[u8], width: usize, size: usize) -> Findings
     ensures findings { inner.findings_of result ≡ read width size a.now b.now }
     ensures fork { IfSome result.fork (λ index. 0 < index) }
 {
-    let index = log_difference::difference(
+    let difference = log_difference::difference(
         a,
         b,
         width,
         submission_trailer::record_count(a),
         submission_trailer::record_count(b),
     );
-    let difference = differing(index);
     let first = tenures::receipts_of(a, width, size);
     let second = tenures::receipts_of(b, width, size);
     Findings {

@@ -39,7 +39,7 @@ pub fn hirelog_lms_check(key: &[u8], message: &[u8], signature: &[u8]) -> LmsAns
     ensures counted { StepsCounted key.now message.now signature.now
         result.steps }
 {
-    lm_answer::exported(lms::check(key, message, signature))
+    LmsAnswer::from(lms::check(key, message, signature))
 }
 
 // The audit (document 01): the number, and the report in the buffer's first 53 bytes; with number 1, for a

@@ -23,48 +23,51 @@ pub struct LmsAnswer {
     pub steps: u32,
 }
 
-// Document 01's number of an answer: 0 good, 15 bad, 16 long message.
-pub fn number_of(answer: Answer) -> u32
-    ensures { result ≡ paper.answer_number answer }
-{
-    match answer {
-        Answer::Good(_, _) => 0,
-        Answer::Bad(_) => 15,
-        Answer::Long => 16,
+impl Answer {
+    // Document 01's number of it: 0 good, 15 bad, 16 long message.
+    pub fn number(self) -> u32
+        ensures { result ≡ paper.answer_number self }
+    {
+        match self {
+            Answer::Good(_, _) => 0,
+            Answer::Bad(_) => 15,
+            Answer::Long => 16,
+        }
+    }
+
+    // The leaf of a good signature; 0 where there is none.
+    pub fn leaf(self) -> u32
+        ensures { result ≡ paper.answer_leaf self }
+    {
+        match self {
+            Answer::Good(leaf, _) => leaf,
+            Answer::Bad(_) | Answer::Long => 0,
+        }
+    }
+
+    // The chain steps of the check, whether the signature is good or bad; 0 for a long message.
+    pub fn steps(self) -> u32
+        ensures { result ≡ paper.answer_steps self }
+    {
+        match self {
+            Answer::Good(_, steps) | Answer::Bad(steps) => steps,
+            Answer::Long => 0,
+        }
     }
 }
 
-// The leaf of a good signature; 0 where there is none.
-pub fn leaf_of(answer: Answer) -> u32
-    ensures { result ≡ paper.answer_leaf answer }
-{
-    match answer {
-        Answer::Good(leaf, _) => leaf,
-        Answer::Bad(_) => 0,
-        Answer::Long => 0,
-    }
-}
+impl From<Answer> for LmsAnswer {
+    ghost from_gives = { λ answer c. c ≡ record {
+      number = paper.answer_number answer;
+      leaf = paper.answer_leaf answer;
+      steps = paper.answer_steps answer;
+    } };
 
-// The chain steps of the check, whether the signature is good or bad; 0 for a long message.
-pub fn steps_of(answer: Answer) -> u32
-    ensures { result ≡ paper.answer_steps answer }
-{
-    match answer {
-        Answer::Good(_, steps) => steps,
-        Answer::Bad(steps) => steps,
-        Answer::Long => 0,
-    }
-}
-
-// An answer as C has it.
-pub fn exported(answer: Answer) -> LmsAnswer
-    ensures number { result.number ≡ paper.answer_number answer }
-    ensures leaf { result.leaf ≡ paper.answer_leaf answer }
-    ensures steps { result.steps ≡ paper.answer_steps answer }
-{
-    LmsAnswer {
-        number: number_of(answer),
-        leaf: leaf_of(answer),
-        steps: steps_of(answer),
+    fn from(answer: Answer) -> LmsAnswer {
+        LmsAnswer {
+            number: answer.number(),
+            leaf: answer.leaf(),
+            steps: answer.steps(),
+        }
     }
 }

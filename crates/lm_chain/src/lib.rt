@@ -5,14 +5,14 @@
 ghost use Rattle.std.specs.Prelude.{◌≡◌, ℕ, ◌+◌, ◌^◌, ◌<◌, take};
 ghost use Rattle.sha256.specs.Sha256.{rounds, initial, bytes_of};
 ghost use Rattle.lm_hash.specs.Identifier.{identifier};
-ghost use Rattle.sha256_lanes.specs.Lane.{Lane, lane, state};
+ghost use Rattle.sha256_lanes.specs.Lane.{Lane, lane};
 ghost use Rattle.lm_chain_blocks.specs.Block.{step_block};
 ghost use Rattle.lm_chain.specs.Chain.{stepped, chain};
 
 use lm_hash::Leaf;
 use sha256::State;
 use sha256_lane_words::Lanes;
-use sha256_lanes::{Four, ROOM_WORDS};
+use sha256_lanes::ROOM_WORDS;
 use sha256_tables::K;
 
 // Step j of chain i.
@@ -36,7 +36,7 @@ fn shared(leaf: Leaf) -> State
 }
 
 // Numbers of steps that are m further on.
-pub fn later(j: Lanes, m: u32) -> Lanes
+pub fn later(j: Lanes<u32>, m: u32) -> Lanes<u32>
     requires { (l : Lane) → lane l j + m < 2 ^ 32 }
     ensures { (l : Lane) → lane l result ≡ lane l j + m }
 {
@@ -49,21 +49,19 @@ pub fn later(j: Lanes, m: u32) -> Lanes
 // of each turn, from the sums, and so in vectors; made at its start they are computed lane by lane, and a
 // signature check takes twice as long (docs/SPEED.md). Those after the last step are made too, and not
 // used: hence j + n < 256.
-pub fn run(leaf: Leaf, n: u32, i: Lanes, j: Lanes, t: Four) -> Four
+pub fn run(leaf: Leaf, n: u32, i: Lanes<u32>, j: Lanes<u32>, t: Lanes<State>) -> Lanes<State>
     requires { (l : Lane) → (lane l i < 65536) × (lane l j + n < 256) }
-    ensures { (l : Lane) → bytes_of (state l result)
-        ≡ chain (identifier leaf) leaf.q (lane l i) n (lane l j) (bytes_of (state l t)) }
+    ensures { (l : Lane) → bytes_of (lane l result)
+        ≡ chain (identifier leaf) leaf.q (lane l i) n (lane l j) (bytes_of (lane l t)) }
 {
     let u = shared(leaf);
     let k = sha256_lanes::table();
     let mut w = [0u32; ROOM_WORDS];
     lm_chain_blocks::first_blocks(leaf, i, j, t, &mut w);
     let mut s = t;
-    let mut m: u32 = 0;
-    while m < n {
+    for m in 0..n {
         s = sha256_lanes::absorb(State::new(), u, &k, &mut w);
-        m += 1;
-        lm_chain_blocks::next_blocks(i, later(j, m), s, &mut w);
+        lm_chain_blocks::next_blocks(i, later(j, m + 1), s, &mut w);
     }
     s
 }

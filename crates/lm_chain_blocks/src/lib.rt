@@ -8,14 +8,14 @@
 #![tactic(auto)]
 
 ghost use Rattle.std.specs.Prelude.{◌≡◌, ℕ, ◌<◌, length, get_or};
-ghost use Rattle.sha256_lanes.specs.Lane.{Lane, lane, state, word_in, changed};
+ghost use Rattle.sha256_lanes.specs.Lane.{Lane, lane, word_in, changed};
 ghost use Rattle.sha256_lanes.specs.Lane.{block_words, room_words};
 ghost use Rattle.lm_chain_blocks.specs.Block.{step_block, first_word, across_word, last_word};
 
 use lm_hash::Leaf;
 use sha256::State;
 use sha256_lane_words::Lanes;
-use sha256_lanes::{BLOCK_WORDS, Four};
+use sha256_lanes::BLOCK_WORDS;
 
 // The bits of I, q, i, j and the value, with which the padding ends (FIPS 180-4, 5.1.1).
 const STEP_BITS: u32 = 8 * 55;
@@ -73,7 +73,7 @@ pub fn step_block(leaf: Leaf, i: u32, j: u32, t: State) -> [u32; BLOCK_WORDS]
 
 // ---- the same in each lane
 
-fn firsts(i: Lanes, j: Lanes, a: Lanes) -> Lanes
+fn firsts(i: Lanes<u32>, j: Lanes<u32>, a: Lanes<u32>) -> Lanes<u32>
     requires { (l : Lane) → (lane l i < 65536) × (lane l j < 256) }
     ensures { (l : Lane) → lane l result ≡ first_word (lane l i) (lane l j) (lane l a) }
 {
@@ -85,7 +85,7 @@ fn firsts(i: Lanes, j: Lanes, a: Lanes) -> Lanes
     )
 }
 
-fn joined_lanes(x: Lanes, y: Lanes) -> Lanes
+fn joined_lanes(x: Lanes<u32>, y: Lanes<u32>) -> Lanes<u32>
     ensures { (l : Lane) → lane l result ≡ across_word (lane l x) (lane l y) }
 {
     Lanes(
@@ -96,7 +96,7 @@ fn joined_lanes(x: Lanes, y: Lanes) -> Lanes
     )
 }
 
-fn lasts(h: Lanes) -> Lanes
+fn lasts(h: Lanes<u32>) -> Lanes<u32>
     ensures { (l : Lane) → lane l result ≡ last_word (lane l h) }
 {
     Lanes(last(h.0), last(h.1), last(h.2), last(h.3))
@@ -105,7 +105,14 @@ fn lasts(h: Lanes) -> Lanes
 // ---- four blocks
 
 // Words 5 to 7 of each lane's block. Nine puts in one function would be too many for its proof.
-fn put_first(i: Lanes, j: Lanes, a: Lanes, b: Lanes, c: Lanes, w: &mut [u32])
+fn put_first(
+    i: Lanes<u32>,
+    j: Lanes<u32>,
+    a: Lanes<u32>,
+    b: Lanes<u32>,
+    c: Lanes<u32>,
+    w: &mut [u32],
+)
     requires { (length w.old ≡ room_words) × ((l : Lane) → (lane l i < 65536) × (lane l j < 256)) }
     ensures { (l : Lane) (k : ℕ) → word_in l w.new k
         ≡ changed 7 (across_word (lane l b) (lane l c)) (changed 6 (across_word (lane l a) (lane l b))
@@ -117,7 +124,7 @@ fn put_first(i: Lanes, j: Lanes, a: Lanes, b: Lanes, c: Lanes, w: &mut [u32])
 }
 
 // Words 8 to 10.
-fn put_middle(c: Lanes, d: Lanes, e: Lanes, f: Lanes, w: &mut [u32])
+fn put_middle(c: Lanes<u32>, d: Lanes<u32>, e: Lanes<u32>, f: Lanes<u32>, w: &mut [u32])
     requires { length w.old ≡ room_words }
     ensures { (l : Lane) (k : ℕ) → word_in l w.new k
         ≡ changed 10 (across_word (lane l e) (lane l f)) (changed 9 (across_word (lane l d) (lane l e))
@@ -129,7 +136,7 @@ fn put_middle(c: Lanes, d: Lanes, e: Lanes, f: Lanes, w: &mut [u32])
 }
 
 // Words 11 to 13.
-fn put_last(f: Lanes, g: Lanes, h: Lanes, w: &mut [u32])
+fn put_last(f: Lanes<u32>, g: Lanes<u32>, h: Lanes<u32>, w: &mut [u32])
     requires { length w.old ≡ room_words }
     ensures { (l : Lane) (k : ℕ) → word_in l w.new k
         ≡ changed 13 (last_word (lane l h)) (changed 12 (across_word (lane l g) (lane l h))
@@ -141,12 +148,12 @@ fn put_last(f: Lanes, g: Lanes, h: Lanes, w: &mut [u32])
 }
 
 // Makes the blocks of some step of each lane's chain i those of step j, on the value t: words 5 to 13 of `w`.
-pub fn next_blocks(i: Lanes, j: Lanes, t: Four, w: &mut [u32])
+pub fn next_blocks(i: Lanes<u32>, j: Lanes<u32>, t: Lanes<State>, w: &mut [u32])
     requires { (length w.old ≡ room_words) × ((l : Lane) → (lane l i < 65536) × (lane l j < 256)) }
     ensures { (l : Lane) (leaf : Leaf) (p : ℕ) (v : State)
         → ((n : ℕ) → n < block_words → word_in l w.old n ≡ get_or (step_block leaf (lane l i) p v) n 0)
         → (n : ℕ) → n < block_words
-        → word_in l w.new n ≡ get_or (step_block leaf (lane l i) (lane l j) (state l t)) n 0 }
+        → word_in l w.new n ≡ get_or (step_block leaf (lane l i) (lane l j) (lane l t)) n 0 }
 {
     let a = Lanes(t.0.a, t.1.a, t.2.a, t.3.a);
     let b = Lanes(t.0.b, t.1.b, t.2.b, t.3.b);
@@ -162,14 +169,16 @@ pub fn next_blocks(i: Lanes, j: Lanes, t: Four, w: &mut [u32])
 }
 
 // Makes the blocks of step j of each lane's chain i, on the value t, the first sixteen words of each lane.
-pub fn first_blocks(leaf: Leaf, i: Lanes, j: Lanes, t: Four, w: &mut [u32])
+pub fn first_blocks(leaf: Leaf, i: Lanes<u32>, j: Lanes<u32>, t: Lanes<State>, w: &mut [u32])
     requires { (length w.old ≡ room_words) × ((l : Lane) → (lane l i < 65536) × (lane l j < 256)) }
     ensures { (l : Lane) (n : ℕ) → n < block_words
-        → word_in l w.new n ≡ get_or (step_block leaf (lane l i) (lane l j) (state l t)) n 0 }
+        → word_in l w.new n ≡ get_or (step_block leaf (lane l i) (lane l j) (lane l t)) n 0 }
 {
-    let b0 = step_block(leaf, i.0, j.0, t.0);
-    let b1 = step_block(leaf, i.1, j.1, t.1);
-    let b2 = step_block(leaf, i.2, j.2, t.2);
-    let b3 = step_block(leaf, i.3, j.3, t.3);
-    sha256_lanes::load(b0, b1, b2, b3, w);
+    let blocks = Lanes(
+        step_block(leaf, i.0, j.0, t.0),
+        step_block(leaf, i.1, j.1, t.1),
+        step_block(leaf, i.2, j.2, t.2),
+        step_block(leaf, i.3, j.3, t.3),
+    );
+    sha256_lanes::load(blocks, w);
 }

@@ -3,13 +3,13 @@
 
 ghost use Rattle.std.specs.Prelude.{◌≡◌, ℕ, ◌+◌, ◌*◌, ◌≤◌, ◌<◌, length, take, drop};
 ghost use Rattle.sha256.specs.Sha256.{bytes_of};
-ghost use Rattle.sha256_lanes.specs.Lane.{Lane, pick, state, changed};
+ghost use Rattle.sha256_lanes.specs.Lane.{Lane, lane, changed};
 ghost use Rattle.lm_digits.specs.Listed.{chains_most};
 ghost use Rattle.lm_chain_values.specs.Values.{value_at};
 
 use lm_digits::CHAINS_MOST;
 use sha256::State;
-use sha256_lanes::Four;
+use sha256_lane_words::Lanes;
 
 // The words of the values of all chains, eight for each chain of the type that has the most.
 pub const VALUES_WORDS: usize = 8 * CHAINS_MOST;
@@ -50,31 +50,29 @@ pub fn put_value(v: &mut [u32], i: usize, s: State)
 }
 
 // The values of four chains.
-pub fn four_at(v: &[u32], i0: usize, i1: usize, i2: usize, i3: usize) -> Four
-    requires { (8 * i0 + 8 ≤ length v.now) × (8 * i1 + 8 ≤ length v.now)
-        × (8 * i2 + 8 ≤ length v.now) × (8 * i3 + 8 ≤ length v.now) }
-    ensures { (l : Lane) → bytes_of (state l result) ≡ value_at v.now (pick l i0 i1 i2 i3) }
+pub fn four_at(v: &[u32], i: Lanes<usize>) -> Lanes<State>
+    requires { (l : Lane) → 8 * lane l i + 8 ≤ length v.now }
+    ensures { (l : Lane) → bytes_of (lane l result) ≡ value_at v.now (lane l i) }
 {
-    Four(
-        value_at(v, i0),
-        value_at(v, i1),
-        value_at(v, i2),
-        value_at(v, i3),
+    Lanes(
+        value_at(v, i.0),
+        value_at(v, i.1),
+        value_at(v, i.2),
+        value_at(v, i.3),
     )
 }
 
 // Makes values those of four chains.
-pub fn put_four(v: &mut [u32], i0: usize, i1: usize, i2: usize, i3: usize, t: Four)
-    requires { (8 * i0 + 8 ≤ length v.old) × (8 * i1 + 8 ≤ length v.old)
-        × (8 * i2 + 8 ≤ length v.old) × (8 * i3 + 8 ≤ length v.old) }
+pub fn put_four(v: &mut [u32], i: Lanes<usize>, t: Lanes<State>)
+    requires { (l : Lane) → 8 * lane l i + 8 ≤ length v.old }
     ensures { (k : ℕ) → value_at v.new k
-        ≡ changed i3 (bytes_of t.3) (changed i2 (bytes_of t.2)
-        (changed i1 (bytes_of t.1) (changed i0 (bytes_of t.0) (value_at v.old)))) k }
+        ≡ changed i.3 (bytes_of t.3) (changed i.2 (bytes_of t.2)
+        (changed i.1 (bytes_of t.1) (changed i.0 (bytes_of t.0) (value_at v.old)))) k }
 {
-    put_value(v, i0, t.0);
-    put_value(v, i1, t.1);
-    put_value(v, i2, t.2);
-    put_value(v, i3, t.3);
+    put_value(v, i.0, t.0);
+    put_value(v, i.1, t.1);
+    put_value(v, i.2, t.2);
+    put_value(v, i.3, t.3);
 }
 
 // The values that the chains begin with: y[0], y[1], ..
@@ -83,10 +81,8 @@ pub fn load(y: &[u8], count: usize) -> [u32; VALUES_WORDS]
     ensures { (k : ℕ) → k < count → value_at result k ≡ take 32 (drop (32 * k) y.now) }
 {
     let mut v = [0u32; VALUES_WORDS];
-    let mut i = 0;
-    while i < count {
+    for i in 0..count {
         put_value(&mut v, i, lm_hash::value_at(y, 32 * i));
-        i += 1;
     }
     v
 }

@@ -10,8 +10,7 @@ use native.Mathlib.Omega.{arith}
 use lib.Dec.{eqb, lit≤, lit<}
 use lib.Pow.{pow_pos, pow_mono, shl_lt}
 use Rattle.lm_digits.specs.declared.Parameters.{Parameters}
-use Rattle.lm_digits.specs.declared.OneTime.{OneTime}
-use Rattle.lm_digits.specs.declared.OneTime.TheVariants.{Known, Unknown}
+use Rattle.std.specs.Prelude.{Option, Some, None}
 use Rattle.lm_digits.specs.Parameters.{row, one_time, message_digits, Follows}
 use Rattle.lm_digits.specs.Digits.{coef, to_largest, sum, checksum}
 use Rattle.lm_digits.proofs.Widths.{width-pos, pow-le, digit-inside, message-fits, message-few}
@@ -104,24 +103,24 @@ follows_from w length above least =
     }
 
 module _ (P : Parameters → Type 0) {o : Parameters} where
-  arm : (t : Bool) {x : Parameters} {rest : OneTime} → P x → (rest ≡ Known o → P o)
-      → cond t (Known x) rest ≡ Known o → P o
+  arm : (t : Bool) {x : Parameters} {rest : Option Parameters} → P x → (rest ≡ Some o → P o)
+      → cond t (Some x) rest ≡ Some o → P o
   arm true {x = x} p q e = let same : x ≡ o = cc in rw (← same) p
   arm false p q e = q e
 
-  none : Unknown ≡ Known o → P o
+  none : None ≡ Some o → P o
   none e = let z : ◌≡◌ {A = ℕ} 0 1 = cc in absurd (omega arith)
 
   -- what holds of each row holds of each type that the table knows
   pub each-known : (number : ℕ) {a b c d : Parameters} → P a → P b → P c → P d
-      → cond (eqb number 1) (Known a)
-      (cond (eqb number 2) (Known b) (cond (eqb number 3) (Known c) (cond (eqb number 4) (Known d) Unknown)))
-      ≡ Known o
+      → cond (eqb number 1) (Some a)
+      (cond (eqb number 2) (Some b) (cond (eqb number 3) (Some c) (cond (eqb number 4) (Some d) None)))
+      ≡ Some o
       → P o
   each-known number a b c d =
       arm (eqb number 1) a (arm (eqb number 2) b (arm (eqb number 3) c (arm (eqb number 4) d none)))
 
-pub known-follows : (number : ℕ) {o : Parameters} → one_time number ≡ Known o → Follows o
+pub known-follows : (number : ℕ) {o : Parameters} → one_time number ≡ Some o → Follows o
 unfolding one_time row message_digits
 known-follows number =
     each-known Follows number
@@ -130,17 +129,17 @@ known-follows number =
     (follows_from 4 10 (lit≤ tt) (lit≤ tt))
     (follows_from 8 13 (lit≤ tt) (lit≤ tt))
 
-pub known-width : (number : ℕ) {o : Parameters} → one_time number ≡ Known o → o.bits * (8 / o.bits) ≡ 8
+pub known-width : (number : ℕ) {o : Parameters} → one_time number ≡ Some o → o.bits * (8 / o.bits) ≡ 8
 unfolding one_time row
 known-width number =
     each-known (λ p. p.bits * (8 / p.bits) ≡ 8) number refl refl refl refl
 
-pub known-few : (number : ℕ) {o : Parameters} → one_time number ≡ Known o → o.chains ≤ 265
+pub known-few : (number : ℕ) {o : Parameters} → one_time number ≡ Some o → o.chains ≤ 265
 unfolding one_time row
 known-few number = each-known (λ p. p.chains ≤ 265) number (lit≤ tt) (lit≤ tt) (lit≤ tt) (lit≤ tt)
 
 -- the digits of Q fill its 32 bytes, and there are more chains than these
-pub known-message : (number : ℕ) {o : Parameters} → one_time number ≡ Known o
+pub known-message : (number : ℕ) {o : Parameters} → one_time number ≡ Some o
     → (message_digits o.bits * o.bits ≡ 8 * 32) × (message_digits o.bits < o.chains)
 unfolding one_time row message_digits
 known-message number =

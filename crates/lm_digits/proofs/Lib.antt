@@ -1,4 +1,5 @@
 pub mod Counting
 pub mod Figures
+pub mod Rows
 pub mod Steps
 pub mod Widths

@@ -1,9 +1,7 @@
 -- The parameters of the one-time types (document 01, "Digest and signature"; RFC 8554, 4.1, table 1), and the
 -- claim that chains and shift follow from the digit width (RFC 8554, appendix B). n is 32 throughout.
-use Rattle.std.specs.Prelude.{◌≡◌, cond, ℕ, suc, ◌+◌, ◌-◌, ◌*◌, ◌/◌, ◌^◌, ◌≤◌, eqb}
+use Rattle.std.specs.Prelude.{◌≡◌, cond, Option, Some, None, ℕ, suc, ◌+◌, ◌-◌, ◌*◌, ◌/◌, ◌^◌, ◌≤◌, eqb}
 use Rattle.lm_digits.specs.declared.Parameters.{Parameters}
-use Rattle.lm_digits.specs.declared.OneTime.{OneTime}
-use Rattle.lm_digits.specs.declared.OneTime.TheVariants.{Known, Unknown}
 
 -- digit bits w, chains p, checksum shift ls
 unfoldable pub row : ℕ → ℕ → ℕ → Parameters
@@ -14,11 +12,11 @@ abbrev pub byte_digits : Parameters
 byte_digits = row 8 34 0
 
 -- the table by type number
-unfoldable pub one_time : ℕ → OneTime
+unfoldable pub one_time : ℕ → Option Parameters
 one_time number =
-    cond (eqb number 1) (Known (row 1 265 7))
-    (cond (eqb number 2) (Known (row 2 133 6))
-    (cond (eqb number 3) (Known (row 4 67 4)) (cond (eqb number 4) (Known byte_digits) Unknown)))
+    cond (eqb number 1) (Some (row 1 265 7))
+    (cond (eqb number 2) (Some (row 2 133 6))
+    (cond (eqb number 3) (Some (row 4 67 4)) (cond (eqb number 4) (Some byte_digits) None)))
 
 -- ---- appendix B
 

@@ -42,10 +42,8 @@ fn digit_sum(s: &[u8], bits: u32, from: usize, count: usize, before: u32) -> u32
 {
     let largest: u32 = (1 << bits) - 1;
     let mut total = before;
-    let mut i = from;
-    while i < count {
+    for i in from..count {
         total += largest - digit(s, bits, i);
-        i += 1;
     }
     total
 }
@@ -55,11 +53,7 @@ fn join_checksum(q: [u8; HASH_SIZE], checksum: u32) -> [u8; CHECKED_SIZE]
     ensures { result ≡ q ++ be 2 checksum }
 {
     let mut s = [0u8; CHECKED_SIZE];
-    let mut i = 0;
-    while i < HASH_SIZE {
-        s[i] = q[i];
-        i += 1;
-    }
+    s[..HASH_SIZE].copy_from_slice(&q);
     words::put_u16(&mut s, HASH_SIZE, (checksum % 65536) as u16);
     s
 }
@@ -95,10 +89,8 @@ pub fn starts(s: &[u8], bits: u32, count: usize) -> [u32; CHAINS_MOST]
         × ((i : ℕ) → get_or result i 0 < 2 ^ bits) }
 {
     let mut d = [0u32; CHAINS_MOST];
-    let mut i = 0;
-    while i < count {
+    for i in 0..count {
         d[i] = digit(s, bits, i);
-        i += 1;
     }
     d
 }

@@ -21,37 +21,32 @@ pub struct Parameters {
     pub shift: u32,
 }
 
-#[derive(Clone, Copy)]
-pub enum OneTime {
-    Known(Parameters),
-    Unknown,
-}
-
-// The parameters of a type number.
-pub fn one_time(number: u32) -> OneTime
+// The parameters of a type number, if it is listed.
+#[tactic(auto, unfolding(crate::specs::Parameters::one_time, crate::specs::Parameters::row))]
+pub fn one_time(number: u32) -> Option<Parameters>
     ensures { result ≡ one_time number }
 {
     match number {
-        1 => OneTime::Known(Parameters {
+        1 => Some(Parameters {
             bits: 1,
             chains: CHAINS_MOST,
             shift: 7,
         }),
-        2 => OneTime::Known(Parameters {
+        2 => Some(Parameters {
             bits: 2,
             chains: 133,
             shift: 6,
         }),
-        3 => OneTime::Known(Parameters {
+        3 => Some(Parameters {
             bits: 4,
             chains: 67,
             shift: 4,
         }),
-        4 => OneTime::Known(Parameters {
+        4 => Some(Parameters {
             bits: 8,
             chains: BYTE_CHAINS,
             shift: 0,
         }),
-        _ => OneTime::Unknown,
+        _ => None,
     }
 }

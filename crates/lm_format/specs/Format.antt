@@ -1,16 +1,14 @@
 -- Keys and signatures as bytes: the heights by type number (document 01, "Digest and signature"; RFC 8554,
 -- 5.1, table 2), and the lengths (5.3, 5.4).
-use Rattle.std.specs.Prelude.{cond, ℕ, ◌+◌, ◌*◌, eqb}
+use Rattle.std.specs.Prelude.{cond, Option, Some, None, ℕ, ◌+◌, ◌*◌, eqb}
 use Rattle.lm_digits.specs.declared.Parameters.{Parameters}
-use Rattle.lm_format.specs.declared.Height.{Height}
-use Rattle.lm_format.specs.declared.Height.TheVariants.{Levels, Unknown}
 
-unfoldable pub height : ℕ → Height
+unfoldable pub height : ℕ → Option ℕ
 height number =
-    cond (eqb number 5) (Levels 5)
-    (cond (eqb number 6) (Levels 10)
-    (cond (eqb number 7) (Levels 15)
-    (cond (eqb number 8) (Levels 20) (cond (eqb number 9) (Levels 25) Unknown))))
+    cond (eqb number 5) (Some 5)
+    (cond (eqb number 6) (Some 10)
+    (cond (eqb number 7) (Some 15)
+    (cond (eqb number 8) (Some 20) (cond (eqb number 9) (Some 25) None))))
 
 -- 5.3: the bytes of a key: two types, I, T[1]
 abbrev pub key_size : ℕ

@@ -28,12 +28,9 @@ fn put_ends(leaf: Leaf, o: Parameters, s: &[u8], y: &[u8], out: &mut [u8])
     ensures { take (32 * o.chains) out.new
         ≡ rfc.ends o (identifier leaf) leaf.q s.now y.now o.chains }
 {
-    let chains = o.chains;
     let v = walk::walk(leaf, o, s, y);
-    let mut i = 0;
-    while i < chains {
+    for i in 0..o.chains {
         lm_hash::put_value(out, 32 * i, lm_chain_values::value_at(&v, i));
-        i += 1;
     }
 }
 

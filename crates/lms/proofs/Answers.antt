@@ -1,5 +1,6 @@
 -- The tests of algorithms 6 and 6a one after the other: the first that fails, or the last, gives the answer.
 -- Assumes nothing.
+use Rattle.std.specs.Prelude.{Some, None}
 use mathlib.Core.Path.{◌≡◌}
 use mathlib.Core.Bool.{true, false}
 use mathlib.Core.List.{List}
@@ -9,10 +10,8 @@ use lib.ListN.{length, drop}
 use Rattle.words.specs.BigEndian.{number_at, same}
 use Rattle.sha256.specs.Service.{limit, too_long}
 use Rattle.lm_digits.specs.declared.Parameters.{Parameters}
-use Rattle.lm_digits.specs.declared.OneTime.TheVariants.{Known, Unknown as NoType}
 use Rattle.lm_digits.specs.Parameters.{one_time}
 use Rattle.lm_digits.specs.Digits.{steps}
-use Rattle.lm_format.specs.declared.Height.TheVariants.{Levels, Unknown}
 use Rattle.lm_format.specs.Format.{height, key_size}
 use Rattle.lm_format.specs.Formed.{formed}
 use Rattle.lm_format.specs.Leaf.{leaf_of, leaf_number}
@@ -52,16 +51,16 @@ module _ (key message sig : List ℕ) where
     wrong-key a = rw (le-ltb _ _ short, ne_eqb _ _ a)
 
     module _ (size : length key ≡ key_size) where
-      pub no-one-time : one_time (number_at 4 key 4) ≡ NoType → Bad 0 ≡ answer key message sig
+      pub no-one-time : one_time (number_at 4 key 4) ≡ None → Bad 0 ≡ answer key message sig
       unfolding answer verdict too_long good steps_of typed
       no-one-time a = rw (le-ltb _ _ short, eq-eqb _ _ size, a)
 
-      module _ (o : Parameters) (known : one_time (number_at 4 key 4) ≡ Known o) where
-        pub no-height : height (number_at 4 key 0) ≡ Unknown → Bad 0 ≡ answer key message sig
+      module _ (o : Parameters) (known : one_time (number_at 4 key 4) ≡ Some o) where
+        pub no-height : height (number_at 4 key 0) ≡ None → Bad 0 ≡ answer key message sig
         unfolding answer verdict too_long good steps_of typed
         no-height a = rw (le-ltb _ _ short, eq-eqb _ _ size, known, a)
 
-        module _ (h : ℕ) (levels : height (number_at 4 key 0) ≡ Levels h) where
+        module _ (h : ℕ) (levels : height (number_at 4 key 0) ≡ Some h) where
           pub by-types : {r : Answer} → r ≡ verdict (verifies o h key message sig) key sig (steps_taken o h key message sig)
               → r ≡ answer key message sig
           unfolding answer too_long good steps_of typed

@@ -1,5 +1,6 @@
 -- The leaf of a good signature is one of its tree's, so that its number fits four bytes.
 -- Assumes nothing.
+use Rattle.std.specs.Prelude.{Option, Some, None}
 use mathlib.Core.Path.{◌≡◌, refl}
 use mathlib.Core.Bool.{true, false, false≢true}
 use mathlib.Core.List.{List}
@@ -10,11 +11,8 @@ use lib.ListN.{length}
 use lib.Pow.{pow_mono}
 use Rattle.words.specs.BigEndian.{number_at}
 use Rattle.refusal.proofs.Laws.{cond-true}
-use Rattle.lm_digits.specs.declared.OneTime.{OneTime}
-use Rattle.lm_digits.specs.declared.OneTime.TheVariants.{Known, Unknown as NoType}
+use Rattle.lm_digits.specs.declared.Parameters.{Parameters}
 use Rattle.lm_digits.specs.Parameters.{one_time}
-use Rattle.lm_format.specs.declared.Height.{Height}
-use Rattle.lm_format.specs.declared.Height.TheVariants.{Levels, Unknown}
 use Rattle.lm_format.specs.Format.{height, key_size}
 use Rattle.lm_format.specs.Formed.{formed}
 use Rattle.lm_format.specs.Leaf.{leaf_of, leaf_number}
@@ -23,13 +21,13 @@ use Rattle.lm_format.proofs.Leaf.{leaf-fits}
 use Rattle.lms.specs.Check.{verifies, typed, good}
 
 module _ (key message signature : List ℕ) where
-  typed-leaf : (o : OneTime) (t : Height) → ((h : ℕ) → t ≡ Levels h → h ≤ 25)
+  typed-leaf : (o : Option Parameters) (t : Option ℕ) → ((h : ℕ) → t ≡ Some h → h ≤ 25)
       → typed false (λ o h. verifies o h key message signature) o t ≡ true
       → leaf_number (leaf_of key signature) < 256 ^ 4
   unfolding typed verifies
-  typed-leaf NoType t high e = absurd (false≢true e)
-  typed-leaf (Known o) Unknown high e = absurd (false≢true e)
-  typed-leaf (Known o) (Levels h) high e =
+  typed-leaf None t high e = absurd (false≢true e)
+  typed-leaf (Some o) None high e = absurd (false≢true e)
+  typed-leaf (Some o) (Some h) high e =
       lt_of_lt_of_le (leaf-fits o h key signature (cond-true (formed o h key signature) _ e).0) (le_trans (pow_mono (high h refl)) (lit≤ tt))
 
   pub good-leaf : good key message signature ≡ true → leaf_number (leaf_of key signature) < 256 ^ 4

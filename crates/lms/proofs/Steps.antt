@@ -1,6 +1,7 @@
 -- The claim on the chain steps holds of the service's answer. Either the chains are not reached, and there are no steps, or the steps are
 -- those of the key's row for Q, of which `lm_digits` has the laws.
 -- Assumes nothing.
+use Rattle.std.specs.Prelude.{Option, Some, None}
 use mathlib.Core.Path.{◌≡◌, refl, sym, ◌∙◌}
 use mathlib.Core.Bool.{Bool, true, false, cond, false≢true}
 use mathlib.Core.List.{List}
@@ -13,13 +14,9 @@ use Rattle.words.specs.BigEndian.{number_at}
 use Rattle.refusal.proofs.Laws.{look}
 use Rattle.sha256.specs.Service.{too_long}
 use Rattle.lm_digits.specs.declared.Parameters.{Parameters}
-use Rattle.lm_digits.specs.declared.OneTime.{OneTime}
-use Rattle.lm_digits.specs.declared.OneTime.TheVariants.{Known, Unknown as NoType}
 use Rattle.lm_digits.specs.Parameters.{one_time, byte_digits}
 use Rattle.lm_digits.specs.Digits.{steps}
 use Rattle.lm_digits.proofs.Steps.{steps-le, steps-some, steps-bytes, steps-range}
-use Rattle.lm_format.specs.declared.Height.{Height}
-use Rattle.lm_format.specs.declared.Height.TheVariants.{Levels, Unknown}
 use Rattle.lm_format.specs.Format.{height, key_size}
 use Rattle.lm_format.specs.Formed.{formed}
 use Rattle.lm_hash.specs.Tagged.{tagged}
@@ -30,7 +27,7 @@ use Rattle.lm_answer.specs.Number.{answer_steps}
 use Rattle.lms.specs.Check.{hash_of, steps_taken, typed, good, steps_of, verdict, answer}
 use Rattle.lms.specs.Steps.{reached, StepsCounted}
 
-known-one : {o p : Parameters} → Known o ≡ Known p → o ≡ p
+known-one : {o p : Parameters} → Some o ≡ Some p → o ≡ p
 known-one {o} {p} e = cc
 
 module _ (key message sig : List ℕ) where
@@ -38,18 +35,18 @@ module _ (key message sig : List ℕ) where
 
   record Counted (n : ℕ) : Type 0 where
     o : Parameters
-    known : one_time (number_at 4 key 4) ≡ Known o
+    known : one_time (number_at 4 key 4) ≡ Some o
     count : n ≡ steps o (hash_of key message sig)
 
   abbrev Told : Bool → ℕ → Type 0
   Told b n = ((b ≡ false) × (n ≡ 0)) ⊎ ((b ≡ true) × Counted n)
 
-  typed-told : (a : OneTime) (t : Height) → one_time (number_at 4 key 4) ≡ a
+  typed-told : (a : Option Parameters) (t : Option ℕ) → one_time (number_at 4 key 4) ≡ a
       → Told (typed false (λ o h. formed o h key sig) a t) (typed 0 (λ o h. steps_taken o h key message sig) a t)
   unfolding typed steps_taken
-  typed-told NoType t e = inl (refl, refl)
-  typed-told (Known o) Unknown e = inl (refl, refl)
-  typed-told (Known o) (Levels h) e =
+  typed-told None t e = inl (refl, refl)
+  typed-told (Some o) None e = inl (refl, refl)
+  typed-told (Some o) (Some h) e =
       ⊎_elim
       (λ f. inr (f, record { o = o; known = e; count = rw f }))
       (λ f. inl (f, rw f))
@@ -85,7 +82,7 @@ module _ (key message sig : List ℕ) where
     counted : reached key message sig ≡ true → Counted n
     counted e = ⊎_elim (λ h. absurd (false≢true (sym h.0 ∙ e))) (λ h. h.1) t
 
-    bytes_counted : reached key message sig ≡ true → one_time (number_at 4 key 4) ≡ Known byte_digits
+    bytes_counted : reached key message sig ≡ true → one_time (number_at 4 key 4) ≡ Some byte_digits
         → n ≡ steps byte_digits (hash_of key message sig)
     bytes_counted e k = let c = counted e in rw (← known-one (sym c.known ∙ k)) c.count
 

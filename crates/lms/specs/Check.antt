@@ -1,15 +1,11 @@
 -- The signature check (RFC 8554, 5.4.2, algorithms 6 and 6a), its chain steps (document 02, W7), and the
 -- answer of the service for every input (document 01, "Digest and signature").
-use Rattle.std.specs.Prelude.{Bool, false, cond, List, ℕ, eqb, length, take, drop}
+use Rattle.std.specs.Prelude.{Option, Some, None, Bool, false, cond, List, ℕ, eqb, length, take, drop}
 use Rattle.words.specs.BigEndian.{number_at, same}
 use Rattle.sha256.specs.Service.{too_long}
 use Rattle.lm_digits.specs.declared.Parameters.{Parameters}
-use Rattle.lm_digits.specs.declared.OneTime.{OneTime}
-use Rattle.lm_digits.specs.declared.OneTime.TheVariants.{Known, Unknown as NoType}
 use Rattle.lm_digits.specs.Parameters.{one_time}
 use Rattle.lm_digits.specs.Digits.{steps}
-use Rattle.lm_format.specs.declared.Height.{Height}
-use Rattle.lm_format.specs.declared.Height.TheVariants.{Levels, Unknown}
 use Rattle.lm_format.specs.Format.{height, key_size, one_time_bytes, path_at}
 use Rattle.lm_format.specs.Formed.{formed}
 use Rattle.lm_format.specs.Leaf.{leaf_of, leaf_number}
@@ -41,10 +37,10 @@ module _ (o : Parameters) (h : ℕ) (key message signature : List ℕ) where
   steps_taken = cond (formed o h key signature) (steps o (hash_of key message signature)) 0
 
 -- algorithm 6, step 2: f of what the key's types stand for, or `other` where one is not listed
-unfoldable pub typed : {A : Type 0} → A → (Parameters → ℕ → A) → OneTime → Height → A
-typed other f NoType t = other
-typed other f (Known o) Unknown = other
-typed other f (Known o) (Levels h) = f o h
+unfoldable pub typed : {A : Type 0} → A → (Parameters → ℕ → A) → Option Parameters → Option ℕ → A
+typed other f None t = other
+typed other f (Some o) None = other
+typed other f (Some o) (Some h) = f o h
 
 -- algorithm 6, steps 1 and 2: the same of a key, or `other` where its length is wrong
 abbrev pub keyed : {A : Type 0} → A → (Parameters → ℕ → A) → List ℕ → A

@@ -12,8 +12,8 @@ ghost use Rattle.lm_format.specs.Format.{key_size, signature_length};
 ghost use Rattle.lms.specs.Check as rfc;
 
 use lm_answer::Answer;
-use lm_digits::{OneTime, Parameters};
-use lm_format::{Height, IDENTIFIER_AT, ONE_TIME_AT, ROOT_AT, TYPE_SIZE};
+use lm_digits::Parameters;
+use lm_format::{IDENTIFIER_AT, ONE_TIME_AT, ROOT_AT, TYPE_SIZE};
 use sha256::State;
 
 // Tc (RFC 8554, 5.4.2, algorithm 6a), and the chain steps that lead to it (document 02, W7).
@@ -33,7 +33,7 @@ fn root_of(o: Parameters, h: u32, key: &[u8], message: &[u8], signature: &[u8]) 
         ≡ steps o (rfc.hash_of key.now message.now signature.now) }
 {
     let leaf = lm_hash::leaf_at(key, IDENTIFIER_AT, words::u32_at(signature, 0));
-    let end = ONE_TIME_AT + 32 * (o.chains + 1);
+    let end = ONE_TIME_AT + lm_format::one_time_size(o);
     let path = end + TYPE_SIZE;
     let candidate = lm_ots::candidate::candidate(leaf, o, message, &signature[ONE_TIME_AT..end]);
     RootCandidate {
@@ -47,8 +47,7 @@ fn matches(root: State, key: &[u8]) -> bool
     requires { length key.now ≡ key_size }
     ensures { result ≡ same (bytes_of root) (drop 24 key.now) }
 {
-    let bytes = root.bytes();
-    check::same(&bytes, &key[ROOT_AT..])
+    root.bytes()[..] == key[ROOT_AT..]
 }
 
 // Whether a signature verifies under a key of known types (RFC 8554, 5.4.2, algorithms 6 and 6a): good, with
@@ -83,10 +82,10 @@ pub fn check(key: &[u8], message: &[u8], signature: &[u8]) -> Answer
     if key.len() != lm_format::KEY_SIZE {
         return Answer::Bad(0);
     }
-    let OneTime::Known(o) = lm_digits::one_time(words::u32_at(key, 4)) else {
+    let Some(o) = lm_digits::one_time(words::u32_at(key, 4)) else {
         return Answer::Bad(0);
     };
-    let Height::Levels(h) = lm_format::height_of(words::u32_at(key, 0)) else {
+    let Some(h) = lm_format::height_of(words::u32_at(key, 0)) else {
         return Answer::Bad(0);
     };
     verify(o, h, key, message, signature)

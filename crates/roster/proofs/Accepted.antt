@@ -10,24 +10,12 @@ use mathlib.Core.Logic.{⊎_elim}
 use lib.Dec.{eqb, leb, lit<, lit≤}
 use lib.ListN.{length}
 use lib.Seq.{length-take-le}
+use Rattle.std.specs.Prelude.{Option, Some}
 use Rattle.refusal.proofs.Laws.{look, cond-true, all_cons, accepted}
 use Rattle.lm_digits.specs.Parameters.{row}
-use Rattle.lm_format.specs.declared.Height.{Height}
-use Rattle.lm_format.specs.declared.Height.TheVariants.{Levels}
 use Rattle.lm_format.specs.Format.{height, key_size, one_time_bytes, path_at, signature_length}
+use Rattle.roster.proofs.EveryReplica.{every_each}
 use Rattle.roster.specs.Roster.{name_size, head_size, cluster, replicas, key_of, tree_type, one_time_type, levels, signature_size, every_replica, sized, typed, roster_number}
-
--- ---- every replica
-
-every_each : (n : ℕ) (test : ℕ → Bool) → every_replica n test ≡ true → (k : ℕ) → 0 < k → k ≤ n → test k ≡ true
-unfolding every_replica
-every_each zero test e k low high = absurd (omega arith)
-every_each (suc n) test e k low high =
-    let p = cond-true (test (suc n)) (every_replica n test) e in
-    ⊎_elim
-    (λ h. every_each n test p.1 k low (leb-true k n h))
-    (λ h. let last : k ≡ suc n = omega (arith, leb-false k n h) in rw last p.0)
-    (look (leb k n))
 
 -- ---- what each check says
 
@@ -78,18 +66,18 @@ levels-le number =
     arm (eqb number 5) _ (lit≤ tt) (arm (eqb number 6) _ (lit≤ tt)
     (arm (eqb number 7) _ (lit≤ tt) (arm (eqb number 8) _ (lit≤ tt) (arm (eqb number 9) _ (lit≤ tt) (lit≤ tt)))))
   where
-    arm : (t : Bool) {n : ℕ} (rest : Height) → n ≤ 25 → levels rest ≤ 25 → levels (cond t (Levels n) rest) ≤ 25
+    arm : (t : Bool) {n : ℕ} (rest : Option ℕ) → n ≤ 25 → levels rest ≤ 25 → levels (cond t (Some n) rest) ≤ 25
     arm true rest p q = p
     arm false rest p q = q
 
 -- the tree types from 5 to 9 have the heights 5, 10, 15, 20, 25
-height_listed : (number : ℕ) → 5 ≤ number → number ≤ 9 → height number ≡ Levels (5 * (number - 4))
+height_listed : (number : ℕ) → 5 ≤ number → number ≤ 9 → height number ≡ Some (5 * (number - 4))
 unfolding height
 height_listed number low high =
     let place : number ≡ 5 + (number - 5) = omega arith in
     rw place (go (number - 5) (omega arith))
   where
-    go : (d : ℕ) → d ≤ 4 → height (5 + d) ≡ Levels (5 * (5 + d - 4))
+    go : (d : ℕ) → d ≤ 4 → height (5 + d) ≡ Some (5 * (5 + d - 4))
     go zero h = refl
     go (suc zero) h = refl
     go (suc (suc zero)) h = refl
@@ -127,7 +115,7 @@ module _ (roster : List ℕ) (fine : roster_number roster ≡ 0) where
   types k low high = typed-true roster k (every_each (replicas roster) (typed roster) checked.1 k low high)
 
   -- S, by the height of the one tree type
-  pub signature-size : (h : ℕ) × (height (tree_type (key_of roster 1)) ≡ Levels h) × (5 ≤ h) × (h ≤ 25) × (signature_size roster ≡ 1132 + 32 * h)
+  pub signature-size : (h : ℕ) × (height (tree_type (key_of roster 1)) ≡ Some h) × (5 ≤ h) × (h ≤ 25) × (signature_size roster ≡ 1132 + 32 * h)
   unfolding levels
   signature-size =
       let s = sizes in

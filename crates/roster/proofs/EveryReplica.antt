@@ -1,28 +1,35 @@
--- A loop over the replicas that are left, whose answer is b: replica `left` fails, or it does not, or none is left.
+-- A test of each replica from 1 to n: it held of each, or it failed of one.
 -- Assumes nothing.
-use mathlib.Core.Path.{◌≡◌, sym, ap, ◌∙◌}
-use mathlib.Core.Bool.{Bool, true, false, not, cond}
-use Prim.Native.Nat.{ℕ, suc, ◌-◌, ◌≤◌, ◌<◌}
+use mathlib.Core.Path.{◌≡◌, refl, sym, ◌∙◌}
+use mathlib.Core.Bool.{Bool, true, false, cond, false≢true}
+use mathlib.Core.Logic.{⊎_elim}
+use Prim.Native.Nat.{ℕ, zero, suc, ◌≤◌, ◌<◌}
 use native.Mathlib.Omega.{arith}
-use borrow.Author.Tests.{not-true, not-false}
+use borrow.Author.Tests.{leb-true, leb-false}
+use lib.Dec.{leb}
+use Rattle.refusal.proofs.Laws.{look, cond-true}
 use Rattle.roster.specs.Roster.{every_replica}
 
-module _ (test : ℕ → Bool) (left : ℕ) {b : Bool} (rest : every_replica left test ≡ b) where
-  module _ (more : 0 < left) {r : Bool} (asked : r ≡ test left) where
-    every-last : cond r (every_replica (left - 1) test) false ≡ b
-    unfolding every_replica
-    every-last =
-        let count : left ≡ suc (left - 1) = omega arith in
-        let last : every_replica left test ≡ cond (test left) (every_replica (left - 1) test) false =
-        ap (λ (n : ℕ). every_replica n test) count ∙ rw (← count) in
-        rw asked (sym last ∙ rest)
+-- where it holds of all of them, it holds of each
+pub every_each : (n : ℕ) (test : ℕ → Bool) → every_replica n test ≡ true → (k : ℕ) → 0 < k → k ≤ n → test k ≡ true
+unfolding every_replica
+every_each zero test e k low high = absurd (omega arith)
+every_each (suc n) test e k low high =
+    let p = cond-true (test (suc n)) (every_replica n test) e in
+    ⊎_elim
+    (λ h. every_each n test p.1 k low (leb-true k n h))
+    (λ h. let last : k ≡ suc n = omega (arith, leb-false k n h) in rw last p.0)
+    (look (leb k n))
 
-    pub fails : not r ≡ true → false ≡ b
-    fails e = rw (not-true r e) at every-last
-
-    pub next : not r ≡ false → every_replica (left - 1) test ≡ b
-    next e = rw (not-false r e) at every-last
-
-  pub done : left ≤ 0 → true ≡ b
+module _ (test : ℕ → Bool) where
+  pub each_held : (n : ℕ) → ((k : ℕ) → 0 < k → k ≤ n → true ≡ test k) → true ≡ every_replica n test
   unfolding every_replica
-  done h = let none : left ≡ 0 = omega arith in rw none at rest
+  each_held zero h = refl
+  each_held (suc n) h = rw (← h (suc n) (omega arith) (omega arith)) (each_held n (λ k low high. h k low (omega arith)))
+
+  pub one_failed : (n k : ℕ) → 0 < k → k ≤ n → false ≡ test k → false ≡ every_replica n test
+  one_failed n k low high e =
+      ⊎_elim
+      (λ h. absurd (false≢true (e ∙ every_each n test h k low high)))
+      (λ h. sym h)
+      (look (every_replica n test))

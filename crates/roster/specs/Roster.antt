@@ -1,12 +1,10 @@
 -- The roster (document 01, "The roster"): cluster name, n, then n public keys; and its checks ("What stops an
 -- audit", 2 to 4).
-use Rattle.std.specs.Prelude.{Bool, true, false, not, cond, List, [], ◌∷◌, ℕ, zero}
+use Rattle.std.specs.Prelude.{Option, unwrap_or, Bool, true, false, not, cond, List, [], ◌∷◌, ℕ, zero}
 use Rattle.std.specs.Prelude.{suc, ◌+◌, ◌-◌, ◌*◌, ◌/◌, eqb, leb, length, take, drop}
 use Rattle.words.specs.BigEndian.{number_at, same}
 use Rattle.refusal.specs.Checks.{all, check, refusal}
 use Rattle.lm_digits.specs.Parameters.{byte_digits}
-use Rattle.lm_format.specs.declared.Height.{Height}
-use Rattle.lm_format.specs.declared.Height.TheVariants.{Levels, Unknown}
 use Rattle.lm_format.specs.Format.{height, key_size, signature_length}
 
 -- the bytes of a cluster's name, and of name and n
@@ -38,10 +36,9 @@ tree_type key = number_at 4 key 0
 unfoldable pub one_time_type : List ℕ → ℕ
 one_time_type key = number_at 4 key 4
 
--- the levels of a listed height
-unfoldable pub levels : Height → ℕ
-levels (Levels h) = h
-levels Unknown = 0
+-- the levels of a listed height, or else 0
+unfoldable pub levels : Option ℕ → ℕ
+levels h = unwrap_or h 0
 
 -- S: the bytes of each signature, from one-time type 4 and the one tree type
 unfoldable pub signature_size : List ℕ → ℕ

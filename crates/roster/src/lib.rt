@@ -8,8 +8,6 @@ ghost use Rattle.roster.specs.Roster as paper;
 ghost use Rattle.roster.specs.Masks as masks;
 ghost use Rattle.roster.specs.Sizes.{signature_most};
 
-use lm_format::Height;
-
 // The bytes of a cluster's name, and of name and n.
 pub const NAME_SIZE: usize = 16;
 
@@ -28,6 +26,7 @@ pub const REPLICAS_MOST: usize = 9;
 pub const MASK_BITS: usize = 16;
 
 // n, of both bytes.
+#[tactic(auto, unfolding(crate::specs::Roster::replicas))]
 pub fn replicas(roster: &[u8]) -> usize
     requires { paper.head_size ≤ length roster.now }
     ensures { (result ≡ paper.replicas roster.now) × (result < 65536) }
@@ -36,6 +35,7 @@ pub fn replicas(roster: &[u8]) -> usize
 }
 
 // The replicas that make a quorum.
+#[tactic(auto, unfolding(crate::specs::Roster::quorum))]
 pub fn quorum(n: usize) -> u32
     requires { (0 < n) × (n < 65536) }
     ensures { result ≡ paper.quorum n }
@@ -48,10 +48,7 @@ pub fn signer(mask: u16, k: usize) -> bool
     requires { 0 < k }
     ensures { result ≡ masks.signer mask k }
 {
-    if MASK_BITS < k {
-        return false;
-    }
-    (mask >> (k - 1)) % 2 == 1
+    k <= MASK_BITS && (mask >> (k - 1)) % 2 == 1
 }
 
 // The key of replica k.
@@ -65,6 +62,7 @@ pub fn key_of(roster: &[u8], k: usize) -> &[u8]
 }
 
 // The tree type of replica k's key.
+#[tactic(auto, unfolding(crate::specs::Roster::tree_type))]
 pub fn tree_type(roster: &[u8], k: usize) -> u32
     requires { (0 < k) × (paper.head_size + key_size * k ≤ length roster.now) }
     ensures { result ≡ paper.tree_type (paper.key_of roster.now k) }
@@ -76,10 +74,7 @@ pub fn tree_type(roster: &[u8], k: usize) -> u32
 fn levels(number: u32) -> usize
     ensures { (result ≡ paper.levels (height number)) × (result ≤ height_most) }
 {
-    match lm_format::height_of(number) {
-        Height::Levels(h) => h as usize,
-        Height::Unknown => 0,
-    }
+    lm_format::height_of(number).unwrap_or(0) as usize
 }
 
 // S: the bytes of each signature.

@@ -10,35 +10,13 @@ fn differ(roster: &[u8], j: usize, k: usize) -> bool
     ensures { result
         ≡ not (same (paper.key_of roster.now j) (paper.key_of roster.now k)) }
 {
-    !check::same(roster::key_of(roster, j), roster::key_of(roster, k))
+    roster::key_of(roster, j) != roster::key_of(roster, k)
 }
 
 // Whether replica k's key is not that of a replica before it.
-fn single(roster: &[u8], k: usize) -> bool
+pub fn single(roster: &[u8], k: usize) -> bool
     requires { (0 < k) × (paper.head_size + key_size * k ≤ length roster.now) }
     ensures { result ≡ paper.single roster.now k }
 {
-    let mut j = k - 1;
-    while 0 < j {
-        if !differ(roster, j, k) {
-            return false;
-        }
-        j -= 1;
-    }
-    true
-}
-
-// Whether the keys of replicas 1 to n are all different: none is that of a replica before it.
-pub fn all_single(roster: &[u8], n: usize) -> bool
-    requires { paper.head_size + key_size * n ≤ length roster.now }
-    ensures { result ≡ paper.every_replica n (paper.single roster.now) }
-{
-    let mut last = n;
-    while 0 < last {
-        if !single(roster, last) {
-            return false;
-        }
-        last -= 1;
-    }
-    true
+    super::every_replica(k - 1, |j| differ(roster, j, k))
 }

@@ -1,11 +1,14 @@
 // The checks of a roster (document 01, "What stops an audit", numbers 2 to 4).
 #![tactic(auto)]
 
-ghost use Rattle.std.specs.Prelude.{◌≡◌, ◌+◌, ◌*◌, ◌≤◌, ◌<◌, length};
+ghost use Rattle.std.specs.Prelude.{◌≡◌, MatchOption, Bool, true, false, ℕ, ◌+◌, ◌*◌, ◌≤◌, ◌<◌, length};
+ghost use Rattle.refusal.specs.Refusals.{number_of};
 ghost use Rattle.lm_format.specs.Format.{key_size};
 ghost use Rattle.roster.specs.Roster as paper;
 
 mod keys;
+
+use refusal::Refusal;
 
 // The fewest replicas that a roster may have (document 01, "What stops an audit", number 2).
 const REPLICAS_MIN: usize = 3;
@@ -17,21 +20,23 @@ const TREE_MIN: u32 = 5;
 
 const TREE_MAX: u32 = 9;
 
-// Whether the length is that of n keys, and n is allowed.
-fn sized(roster: &[u8]) -> bool
-    ensures { result ≡ paper.sized roster.now }
+// n, if it is allowed and the length is that of n keys.
+fn sized(roster: &[u8]) -> Option<usize>
+    ensures { MatchOption result (paper.sized roster.now ≡ false)
+        (λ n. (paper.sized roster.now ≡ true) × (n ≡ paper.replicas roster.now)
+        × (paper.head_size + key_size * n ≤ length roster.now)) }
 {
     if roster.len() < roster::HEAD_SIZE {
-        return false;
+        return None;
     }
     let n = roster::replicas(roster);
-    if n < REPLICAS_MIN {
-        return false;
+    if !(REPLICAS_MIN..=roster::REPLICAS_MOST).contains(&n) {
+        return None;
     }
-    if roster::REPLICAS_MOST < n {
-        return false;
+    if roster.len() != roster::HEAD_SIZE + lm_format::KEY_SIZE * n {
+        return None;
     }
-    roster.len() == roster::HEAD_SIZE + lm_format::KEY_SIZE * n
+    Some(n)
 }
 
 // The one-time type of replica k's key.
@@ -47,49 +52,38 @@ fn typed(roster: &[u8], k: usize) -> bool
     requires { (0 < k) × (paper.head_size + key_size * k ≤ length roster.now) }
     ensures { result ≡ paper.typed roster.now k }
 {
-    if one_time_type(roster, k) != ONE_TIME {
-        return false;
-    }
     let tree = roster::tree_type(roster, k);
-    if tree < TREE_MIN {
-        return false;
-    }
-    if TREE_MAX < tree {
-        return false;
-    }
-    tree == roster::tree_type(roster, 1)
+    one_time_type(roster, k) == ONE_TIME
+        && (TREE_MIN..=TREE_MAX).contains(&tree)
+        && tree == roster::tree_type(roster, 1)
 }
 
-// Whether the types of each of replicas 1 to n are allowed, and its tree type is that of replica 1. Rattle
-// has no function parameters, so that this loop and that of `keys::all_single` stand apart; their laws are
-// one (roster/proofs/EveryReplica.antt).
-fn all_typed(roster: &[u8], n: usize) -> bool
-    requires { paper.head_size + key_size * n ≤ length roster.now }
-    ensures { result ≡ paper.every_replica n (paper.typed roster.now) }
+// Whether a test holds of each of replicas 1 to n.
+fn every_replica<F: Fn(usize) -> bool>(n: usize, test: F) -> bool
+    requires { (k : ℕ) → 0 < k → k ≤ n → F.pre test k }
+    ensures { (says : ℕ → Bool) → ((k : ℕ) (b : Bool) → F.post test k b → b ≡ says k)
+        → result ≡ paper.every_replica n says }
 {
-    let mut left = n;
-    while 0 < left {
-        if !typed(roster, left) {
+    for k in 1..=n {
+        if !test(k) {
             return false;
         }
-        left -= 1;
     }
     true
 }
 
-// The roster's refusal, or 0.
-pub fn validate(roster: &[u8]) -> u32
-    ensures { result ≡ paper.roster_number roster.now }
+// The roster's refusal, if there is one.
+pub fn validate(roster: &[u8]) -> Result<(), Refusal>
+    ensures { number_of result ≡ paper.roster_number roster.now }
 {
-    if !sized(roster) {
-        return 2;
+    let Some(n) = sized(roster) else {
+        return Err(Refusal::RosterSize);
+    };
+    if !every_replica(n, |k| typed(roster, k)) {
+        return Err(Refusal::KeyType);
     }
-    let n = roster::replicas(roster);
-    if !all_typed(roster, n) {
-        return 3;
+    if !every_replica(n, |k| keys::single(roster, k)) {
+        return Err(Refusal::DuplicateKey);
     }
-    if !keys::all_single(roster, n) {
-        return 4;
-    }
-    0
+    Ok(())
 }

@@ -12,7 +12,7 @@ use lib.Dec.{eqb, ltb}
 use lib.ListN.{length, get_or, set, length-set}
 use lib.Seq.{get_or-set_same, get_or-set_other}
 use Rattle.sha256_lane_words.specs.declared.Lanes.{Lanes}
-use Rattle.sha256_lane_words.specs.Lane.{Lane, pick, lane, place, word_in, changed}
+use Rattle.sha256_lane_words.specs.Lane.{Lane, lane, place, word_in, changed}
 use Rattle.sha256_lane_words.proofs.Each.{each}
 
 pub changed_in : {A : Type 0} (i : ℕ) (z : A) {f g : ℕ → A} → ((k : ℕ) → f k ≡ g k) → (k : ℕ) → changed i z f k ≡ changed i z g k
@@ -48,7 +48,7 @@ filled_to f g h i z e put new n l = go (eqb n i) refl where
 
 -- ---- four words side by side
 
-module _ (w : List ℕ) (i : ℕ) (v : Lanes) (room : 4 * i + 4 ≤ length w) where
+module _ (w : List ℕ) (i : ℕ) (v : Lanes ℕ) (room : 4 * i + 4 ≤ length w) where
   abbrev one : List ℕ
   one = set w (4 * i) v.0
 
@@ -62,7 +62,7 @@ module _ (w : List ℕ) (i : ℕ) (v : Lanes) (room : 4 * i + 4 ≤ length w) wh
   filled = set three (4 * i + 3) v.3
 
   hit : (l : Lane) → word_in l filled i ≡ lane l v
-  unfolding word_in place lane pick
+  unfolding word_in place lane
   hit =
       each _
       (rw add-zero (get_or-set_other three (4 * i + 3) (4 * i) v.3 0 (λ e. omega arith)

@@ -8,16 +8,12 @@ pub data Lane : Type 0 where
   third : Lane
   fourth : Lane
 
--- the one of four that stands in a lane
-unfoldable pub pick : {A : Type 0} → Lane → A → A → A → A → A
-pick first a b c d = a
-pick second a b c d = b
-pick third a b c d = c
-pick fourth a b c d = d
-
--- the word in a lane
-unfoldable pub lane : Lane → Lanes → ℕ
-lane l v = pick l v.0 v.1 v.2 v.3
+-- what stands in a lane
+unfoldable pub lane : {T : Type 0} → Lane → Lanes T → T
+lane first v = v.0
+lane second v = v.1
+lane third v = v.2
+lane fourth v = v.3
 
 -- the number of a lane
 unfoldable pub place : Lane → ℕ

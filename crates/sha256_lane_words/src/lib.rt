@@ -1,4 +1,4 @@
-// Words of four lanes side by side, and the functions of FIPS 180-4, 4.1.2, on them, in a shape from which
+// Values of four lanes side by side, and the functions of FIPS 180-4, 4.1.2, on words in them, in a shape from which
 // the compiler forms vector instructions.
 #![tactic(auto)]
 
@@ -10,12 +10,34 @@ pub mod functions;
 
 use functions::word;
 
-// A word in each lane.
+// One of four in each lane: a word, a hash value, the number of a chain.
 #[derive(Clone, Copy)]
-pub struct Lanes(pub u32, pub u32, pub u32, pub u32);
+pub struct Lanes<T>(pub T, pub T, pub T, pub T);
 
-// One word, the same in each lane.
-pub fn same(x: u32) -> Lanes
+impl<T: Copy> Lanes<T> {
+    // What a function makes of what stands in each lane.
+    pub fn map<U, F: Fn(T) -> U>(self, f: F) -> Lanes<U>
+        requires { (l : Lane) → F.pre f (lane l self) }
+        ensures { (l : Lane) → F.post f (lane l self) (lane l result) }
+    {
+        Lanes(f(self.0), f(self.1), f(self.2), f(self.3))
+    }
+
+    // What stands in each lane of two, side by side.
+    pub fn zip<U: Copy>(self, other: Lanes<U>) -> Lanes<(T, U)>
+        ensures { (l : Lane) → lane l result ≡ (lane l self, lane l other) }
+    {
+        Lanes(
+            (self.0, other.0),
+            (self.1, other.1),
+            (self.2, other.2),
+            (self.3, other.3),
+        )
+    }
+}
+
+// The same in each lane.
+pub fn same<T: Copy>(x: T) -> Lanes<T>
     ensures { (l : Lane) → lane l result ≡ x }
 {
     Lanes(x, x, x, x)
@@ -23,7 +45,7 @@ pub fn same(x: u32) -> Lanes
 
 // A word of the schedule from those 16, 15, 7 and 2 places before it, in each lane (FIPS 180-4, 6.2.2,
 // step 1).
-pub fn mix(w16: Lanes, w15: Lanes, w7: Lanes, w2: Lanes) -> Lanes
+pub fn mix(w16: Lanes<u32>, w15: Lanes<u32>, w7: Lanes<u32>, w2: Lanes<u32>) -> Lanes<u32>
     ensures { (l : Lane) → lane l result ≡ σ₁ (lane l w2) ⊞ lane l w7 ⊞ σ₀ (lane l w15) ⊞ lane l w16 }
 {
     Lanes(
@@ -35,7 +57,7 @@ pub fn mix(w16: Lanes, w15: Lanes, w7: Lanes, w2: Lanes) -> Lanes
 }
 
 // The words at place i of a list in which four stand side by side.
-pub fn at(w: &[u32], i: usize) -> Lanes
+pub fn at(w: &[u32], i: usize) -> Lanes<u32>
     requires { 4 * i + 4 ≤ length w.now }
     ensures { (l : Lane) → lane l result ≡ word_in l w.now i }
 {
@@ -44,7 +66,7 @@ pub fn at(w: &[u32], i: usize) -> Lanes
 }
 
 // Makes words those at place i of such a list.
-pub fn put(w: &mut [u32], i: usize, v: Lanes)
+pub fn put(w: &mut [u32], i: usize, v: Lanes<u32>)
     requires { 4 * i + 4 ≤ length w.old }
     ensures { (l : Lane) (k : ℕ) → word_in l w.new k
         ≡ changed i (lane l v) (word_in l w.old) k }

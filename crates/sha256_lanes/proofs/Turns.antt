@@ -11,7 +11,7 @@ use Rattle.sha256.specs.declared.State.{State}
 use Rattle.sha256_tables.specs.Constants.{constants}
 use Rattle.sha256.specs.Sha256.{◌⊞◌, σ₀, σ₁, next_word, extend, schedule, round, rounds}
 use Rattle.sha256.proofs.Rounds.{rounds-add}
-use Rattle.sha256_lanes.specs.Lane.{Lane, first, second, third, fourth, pick, changed}
+use Rattle.sha256_lanes.specs.Lane.{changed}
 use Rattle.sha256_lane_words.proofs.Places.{filled_to}
 
 -- ---- the schedule's words
@@ -77,14 +77,6 @@ round_turn i w r s t k x k' x' low ek ex ek' ex' e f =
     let place : 4 + (i - 4) ≡ i = omega arith in
     let next : i + 1 ≡ suc i = omega arith in
     f ∙ rw (e, ek, ex, ek', ex', count, rounds-add (i - 4) 2 4 w s, place, next)
-
--- the same in each lane
-pub alike : (l : Lane) (u : State) → pick l u u u u ≡ u
-unfolding pick
-alike first u = refl
-alike second u = refl
-alike third u = refl
-alike fourth u = refl
 
 -- one word more
 pub word_turn : (v u : ℕ → ℕ) (m : List ℕ) (i : ℕ) → length m ≡ 16 → 16 ≤ i → i < 64 → ((n : ℕ) → n < i → v n ≡ get_or (schedule m) n 0)

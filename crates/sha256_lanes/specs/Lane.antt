@@ -1,9 +1,7 @@
 -- Four hash values or four blocks side by side, one in each lane.
 use Rattle.std.specs.Prelude.{ℕ, ◌*◌}
-use Rattle.sha256.specs.declared.State.{State}
-use Rattle.sha256_lanes.specs.declared.Four.{Four}
 pub use Rattle.sha256_lane_words.specs.Lane.{Lane, first, second, third, fourth}
-unfoldable pub use Rattle.sha256_lane_words.specs.Lane.{pick, lane, place, word_in, changed}
+unfoldable pub use Rattle.sha256_lane_words.specs.Lane.{lane, place, word_in, changed}
 
 -- the words of a block (FIPS 180-4, 5.2.1)
 abbrev pub block_words : ℕ
@@ -12,7 +10,3 @@ block_words = 16
 -- the words of a list in which a schedule of 64 words for each of four lanes stand side by side
 abbrev pub room_words : ℕ
 room_words = 4 * 64
-
--- the hash value in a lane
-unfoldable pub state : Lane → Four → State
-state l v = pick l v.0 v.1 v.2 v.3

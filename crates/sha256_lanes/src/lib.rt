@@ -6,7 +6,7 @@ ghost use Rattle.std.specs.Prelude.{◌≡◌, ℕ, ◌+◌, ◌-◌, ◌*◌, �
 ghost use Rattle.sha256_tables.specs.Constants.{constants};
 ghost use Rattle.sha256.specs.Sha256 as fips;
 ghost use Rattle.sha256.specs.Sha256.{◌⊞◌, σ₀, σ₁};
-ghost use Rattle.sha256_lanes.specs.Lane.{Lane, pick, lane, state, word_in, changed};
+ghost use Rattle.sha256_lanes.specs.Lane.{Lane, lane, word_in, changed};
 ghost use Rattle.sha256_lanes.specs.Lane.{block_words, room_words};
 
 use sha256::State;
@@ -19,15 +19,17 @@ pub const BLOCK_WORDS: usize = 16;
 // The words of a list in which a schedule of 64 words for each of four lanes stand side by side.
 pub const ROOM_WORDS: usize = 4 * 64;
 
-// A hash value in each lane.
-#[derive(Clone, Copy)]
-pub struct Four(pub State, pub State, pub State, pub State);
-
 // Two rounds in each lane, with their constants and words of the schedule (FIPS 180-4, 6.2.2, step 3).
 // Written out, and called from one place: as a loop over one round it is slower by a fifth.
-fn step(s: Four, k0: Lanes, w0: Lanes, k1: Lanes, w1: Lanes) -> Four
-    ensures { (l : Lane) → state l result
-        ≡ fips.round (fips.round (state l s) (lane l k0) (lane l w0)) (lane l k1) (lane l w1) }
+fn step(
+    s: Lanes<State>,
+    k0: Lanes<u32>,
+    w0: Lanes<u32>,
+    k1: Lanes<u32>,
+    w1: Lanes<u32>,
+) -> Lanes<State>
+    ensures { (l : Lane) → lane l result
+        ≡ fips.round (fips.round (lane l s) (lane l k0) (lane l w0)) (lane l k1) (lane l w1) }
 {
     let a0 = round(s.0, k0.0, w0.0);
     let a1 = round(s.1, k0.1, w0.1);
@@ -37,7 +39,7 @@ fn step(s: Four, k0: Lanes, w0: Lanes, k1: Lanes, w1: Lanes) -> Four
     let b1 = round(a1, k1.1, w1.1);
     let b2 = round(a2, k1.2, w1.2);
     let b3 = round(a3, k1.3, w1.3);
-    Four(b0, b1, b2, b3)
+    Lanes(b0, b1, b2, b3)
 }
 
 // The constants of the rounds (FIPS 180-4, 4.2.2), the same in each lane.
@@ -46,30 +48,20 @@ pub fn table() -> [u32; ROOM_WORDS]
 {
     let k = sha256_tables::K;
     let mut r = [0u32; ROOM_WORDS];
-    let mut i = 0;
-    while i < 64 {
-        sha256_lane_words::put(&mut r, i, sha256_lane_words::same(k[i]));
-        i += 1;
+    for (i, x) in k.iter().enumerate() {
+        sha256_lane_words::put(&mut r, i, sha256_lane_words::same(*x));
     }
     r
 }
 
 // Makes the words of four blocks the first sixteen of each lane's schedule.
-pub fn load(
-    b0: [u32; BLOCK_WORDS],
-    b1: [u32; BLOCK_WORDS],
-    b2: [u32; BLOCK_WORDS],
-    b3: [u32; BLOCK_WORDS],
-    w: &mut [u32],
-)
+pub fn load(b: Lanes<[u32; BLOCK_WORDS]>, w: &mut [u32])
     requires { length w.old ≡ room_words }
     ensures { (l : Lane) (i : ℕ) → i < block_words
-        → word_in l w.new i ≡ get_or (pick l b0 b1 b2 b3) i 0 }
+        → word_in l w.new i ≡ get_or (lane l b) i 0 }
 {
-    let mut i = 0;
-    while i < BLOCK_WORDS {
-        sha256_lane_words::put(w, i, Lanes(b0[i], b1[i], b2[i], b3[i]));
-        i += 1;
+    for i in 0..BLOCK_WORDS {
+        sha256_lane_words::put(w, i, Lanes(b.0[i], b.1[i], b.2[i], b.3[i]));
     }
 }
 
@@ -96,10 +88,8 @@ fn words_at(w: &mut [u32], i: usize)
         → ((n : ℕ) → n < i → word_in l w.old n ≡ get_or (fips.schedule m) n 0)
         → (n : ℕ) → n < i + 2 → word_in l w.new n ≡ get_or (fips.schedule m) n 0 }
 {
-    let mut j = 0;
-    while j < 2 {
-        word_at(w, i + j);
-        j += 1;
+    for j in i..i + 2 {
+        word_at(w, j);
     }
 }
 
@@ -110,17 +100,16 @@ fn words_at(w: &mut [u32], i: usize)
 // lanes are carried by it, so that they stay in vector registers; two rounds a turn fill these, one leaves
 // copies between them, and more spill. The words of the schedule are made in the turn that uses them. Two a
 // turn have to divide the rounds up to 16: so they begin at 4.
-fn rounds(u: State, k: &[u32], w: &mut [u32]) -> Four
+fn rounds(u: State, k: &[u32], w: &mut [u32]) -> Lanes<State>
     requires { (length k.now ≡ room_words) × (length w.old ≡ room_words)
         × ((l : Lane) (i : ℕ) → i < 64 → word_in l k.now i ≡ get_or constants i 0) }
     ensures { (l : Lane) (m : List ℕ) → length m ≡ block_words
         → ((i : ℕ) → i < block_words → word_in l w.old i ≡ get_or m i 0)
         → ((i : ℕ) → i < block_words → word_in l w.new i ≡ get_or m i 0)
-        × (state l result ≡ fips.rounds 60 4 (fips.schedule m) u) }
+        × (lane l result ≡ fips.rounds 60 4 (fips.schedule m) u) }
 {
-    let mut s = Four(u, u, u, u);
-    let mut i = 4;
-    while i < 64 {
+    let mut s = sha256_lane_words::same(u);
+    for i in (4..64).step_by(2) {
         if BLOCK_WORDS <= i {
             words_at(w, i);
         }
@@ -131,29 +120,28 @@ fn rounds(u: State, k: &[u32], w: &mut [u32]) -> Four
             sha256_lane_words::at(k, i + 1),
             sha256_lane_words::at(w, i + 1),
         );
-        i += 2;
     }
     s
 }
 
 // The sums of the working variables after the last round and the hash value (FIPS 180-4, 6.2.2, step 4).
-fn sums(s: State, r: Four) -> Four
-    ensures { (l : Lane) → state l result ≡ fips.plus (state l r) s }
+fn sums(s: State, r: Lanes<State>) -> Lanes<State>
+    ensures { (l : Lane) → lane l result ≡ fips.plus (lane l r) s }
 {
-    Four(r.0.plus(s), r.1.plus(s), r.2.plus(s), r.3.plus(s))
+    Lanes(r.0.plus(s), r.1.plus(s), r.2.plus(s), r.3.plus(s))
 }
 
 // The hash value of each lane after its block, from the same hash value (FIPS 180-4, 6.2.2). The blocks are
 // the first sixteen words of `w`, which keeps them; `u` is what the rounds of their first four words make
 // of the working variables, and `k` is the table.
-pub fn absorb(s: State, u: State, k: &[u32], w: &mut [u32]) -> Four
+pub fn absorb(s: State, u: State, k: &[u32], w: &mut [u32]) -> Lanes<State>
     requires { (length k.now ≡ room_words) × (length w.old ≡ room_words)
         × ((l : Lane) (i : ℕ) → i < 64 → word_in l k.now i ≡ get_or constants i 0) }
     ensures { (l : Lane) (m : List ℕ) → length m ≡ block_words
         → ((i : ℕ) → i < block_words → word_in l w.old i ≡ get_or m i 0)
         → u ≡ fips.rounds 4 0 (take 4 m) s
         → ((i : ℕ) → i < block_words → word_in l w.new i ≡ get_or m i 0)
-        × (state l result ≡ fips.compress s m) }
+        × (lane l result ≡ fips.compress s m) }
 {
     sums(s, rounds(u, k, w))
 }

@@ -63,14 +63,12 @@ fn validate_leaders(roster: &[u8], s: &[u8], shape: Shape) -> Validated
         result }
 {
     let n = roster::replicas(roster);
-    let leaders = submission_leaders::leaders_match_log(s, n, shape);
-    if !leaders.holds {
+    let Some(pointers) = submission_leaders::leaders_match_log(s, n, shape) else {
         return refused(13);
-    }
+    };
     if !index_within_log(s, shape) {
         return refused(14);
     }
-    let pointers = leaders.pointers;
     if !submission_signatures::all_signatures_good(roster, s, shape, pointers) {
         return refused(15);
     }

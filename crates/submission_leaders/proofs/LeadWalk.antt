@@ -4,8 +4,9 @@
 use mathlib.Core.Path.{◌≡◌}
 use mathlib.Core.Bool.{Bool, true, false, not, cond}
 use mathlib.Core.List.{List, [], ◌∷◌}
-use Prim.Native.Nat.{ℕ, suc, ◌-◌, ◌≤◌, ◌<◌}
+use Prim.Native.Nat.{ℕ, ◌+◌, ◌-◌, ◌≤◌, ◌<◌}
 use native.Mathlib.Omega.{arith}
+use Rattle.std.proofs.Common.{add-one}
 use borrow.Author.Tests.{not-true, not-false}
 use lib.ListN.{length, drop, get_or}
 use lib.Seq.{drop-cons}
@@ -24,27 +25,25 @@ use Rattle.submission_parts.proofs.Commits.{committed-take}
 use Rattle.submission_parts.proofs.Shapes.{known-records}
 
 module _ (w S : ℕ) (s : List ℕ) where
-  module _ (test : Lead → Bool) (left at : ℕ) (rs : List Run) (leaders : ℕ) (stamps : List (List ℕ)) {b : Bool}
-      (rest : every test (leads_of (certificates w S s left at) rs (drop (leaders - left) stamps)) ≡ b) where
+  -- with the stamps from k on
+  module _ (test : Lead → Bool) (left at : ℕ) (rs : List Run) (k : ℕ) (stamps : List (List ℕ)) {b : Bool}
+      (rest : every test (leads_of (certificates w S s left at) rs (drop k stamps)) ≡ b) where
     pub led : left ≤ 0 → true ≡ b
     unfolding certificates leads_of every
-    led h = let none : left ≡ 0 = omega arith in rw none at rest
+    led h = let none_left : left ≡ 0 = omega arith in rw none_left at rest
 
-    module _ (more : 0 < left) (few : left ≤ leaders) (counted : length stamps ≡ leaders) (r : Run) (later : List Run) (split : rs ≡ r ∷ later) {ok : Bool}
+    module _ (more : 0 < left) (inside : k < length stamps) (r : Run) (later : List Run) (split : rs ≡ r ∷ later) {ok : Bool}
         (asked : (stamp : List ℕ) → ok ≡ test (record { certificate = certificate_at w s at; term = r; stamp = stamp })) where
-      lead-first : cond ok (every test (leads_of (certificates w S s (left - 1) (certificate_end w S s at)) later (drop (leaders - (left - 1)) stamps))) false ≡ b
+      lead-first : cond ok (every test (leads_of (certificates w S s (left - 1) (certificate_end w S s at)) later (drop (k + 1) stamps))) false ≡ b
       unfolding leads_of every
       lead-first =
-          let k = leaders - left in
-          let next : leaders - (left - 1) ≡ suc k = omega arith in
-          let inside : k < length stamps = omega arith in
-          rw (next, asked (get_or stamps k []))
+          rw (add-one, asked (get_or stamps k []))
           (rw (certificates-first w S s left at more, split, drop-cons stamps k [] inside) at rest)
 
       pub lead-fails : not ok ≡ true → false ≡ b
       lead-fails e = rw (not-true ok e) at lead-first
 
-      pub lead-next : not ok ≡ false → every test (leads_of (certificates w S s (left - 1) (certificate_end w S s at)) later (drop (leaders - (left - 1)) stamps)) ≡ b
+      pub lead-next : not ok ≡ false → every test (leads_of (certificates w S s (left - 1) (certificate_end w S s at)) later (drop (k + 1) stamps)) ≡ b
       lead-next e = rw (not-false ok e) at lead-first
 
 -- at the log's end the pointers are those of what the submission says

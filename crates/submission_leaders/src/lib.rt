@@ -3,13 +3,13 @@
 // cluster name in it: that of the form is empty, or any, here.
 #![tactic(auto)]
 
-ghost use Rattle.std.specs.Prelude.{◌≡◌, true, List, [], ℕ, ◌+◌, ◌*◌, ◌≤◌, length};
+ghost use Rattle.std.specs.Prelude.{◌≡◌, true, List, [], ℕ, ◌+◌, ◌*◌, ◌≤◌, length, is_some, IfSome};
 ghost use Rattle.sha256.specs.Sha256.{bytes_of};
 ghost use Rattle.words.specs.Widths.{width_most};
 ghost use Rattle.refusal.specs.Checks.{every};
 ghost use Rattle.log_chain.specs.Log.{with_terms, pointer};
 ghost use Rattle.log_chain.specs.Runs.{run};
-ghost use Rattle.log_terms.specs.Pointed.{PointersIf};
+ghost use Rattle.log_terms.specs.Pointed.{PointersOf};
 ghost use Rattle.submission.specs.View.{committed, leads};
 ghost use Rattle.log_chain.specs.Records.{record_size, records_of};
 ghost use Rattle.submission.specs.Reading.{ballot_at, signers_at, ballot_size};
@@ -22,14 +22,6 @@ use log_terms::LogPointers;
 use sha256::State;
 use submission::TERM_AT;
 use submission_parts::Shape;
-
-// Whether the certificates are those of the log's terms; and, where they are, the pointers of the committed
-// records and of the log.
-#[derive(Clone, Copy)]
-pub struct LogMatch {
-    pub holds: bool,
-    pub pointers: LogPointers,
-}
 
 // Whether the last term, index and pointer of the certificate at a place are those of the first i records.
 fn follows(s: &[u8], width: usize, at: usize, i: usize, before: State) -> bool
@@ -92,37 +84,28 @@ fn leading(s: &[u8], n: usize, width: usize, at: usize, i: usize, end: usize, be
     elected(s, width, at, n)
 }
 
-// 13: whether each certificate is that of its term, with the pointers that the walk has carried along; where
-// one is not, pointer 0 twice.
-pub fn leaders_match_log(s: &[u8], n: usize, shape: Shape) -> LogMatch
+// 13: where each certificate is that of its term, the pointers of the committed records and of the log, which
+// the walk has carried along.
+pub fn leaders_match_log(s: &[u8], n: usize, shape: Shape) -> Option<LogPointers>
     requires { Known shape s.now
         × (paper.one_each (view_in shape s.now) ≡ true) }
     ensures holds { (name : List ℕ)
-        → result.holds ≡ every (paper.leading (with_terms shape.width name) n)
+        → is_some result ≡ every (paper.leading (with_terms shape.width name) n)
         (leads (view_in shape s.now)) }
-    ensures pointers { PointersIf result.holds (with_terms shape.width [])
-        (committed (view_in shape s.now)) (view_in shape s.now).log result.pointers }
+    ensures pointers { IfSome result (PointersOf (with_terms shape.width [])
+        (committed (view_in shape s.now)) (view_in shape s.now).log) }
 {
     let commit = submission_parts::commit_index(s, shape.width, shape.size);
-    let mut left = shape.leaders;
     let mut place = shape.from;
     let mut walked = log_terms::pointers::walk_start();
-    while 0 < left {
+    for _ in 0..shape.leaders {
         let next = log_terms::pointers::next_run(s, shape.width, shape.records, commit, walked);
         let before = walked.pointers;
         if !leading(s, n, shape.width, place, walked.end, next.end, before.last) {
-            return LogMatch {
-                holds: false,
-                pointers: log_terms::pointers::pointers_zero(),
-            };
+            return None;
         }
         place = submission_parts::certificate_end(s, place, shape.width, shape.size);
         walked = next;
-        left -= 1;
     }
-    let pointers = walked.pointers;
-    LogMatch {
-        holds: true,
-        pointers,
-    }
+    Some(walked.pointers)
 }

@@ -19,25 +19,51 @@ use sha256::State;
 use submission::{STATEMENT_MOST, TERM_AT};
 use submission_parts::Shape;
 
-// Whether a stamp is that of the leader certificate at a place: its candidate's, in its term, on the record
-// with an index and a pointer.
-fn stamp_good(
-    roster: &[u8],
+// Where a stamp stands and that of the leader certificate it goes with, and the record that it is on.
+#[derive(Clone, Copy)]
+pub struct StampPart {
+    pub certificate: usize,
+    pub signature: usize,
+    pub index: u32,
+    pub pointer: State,
+}
+
+// The stamp of a term that another follows, whose leader certificate stands at a next place: it is on the last
+// record before that term, which that certificate names.
+pub fn stamp_before(
     s: &[u8],
     width: usize,
-    size: usize,
-    at: usize,
-    stamp: usize,
-    index: u32,
-    pointer: State,
-) -> bool
-    requires { (roster_number roster.now ≡ 0) × (width ≤ width_most)
-        × (at + ballot_size width ≤ length s.now) × (0 < number_at 2 s.now at)
-        × (number_at 2 s.now at ≤ replicas roster.now) × (stamp + size ≤ length s.now) }
-    ensures { result ≡ good (key_of roster.now (number_at 2 s.now at)) (1
-        ∷ cluster roster.now ++ be width (number_at width s.now (at + 2)) ++ be 4 index
-        ++ bytes_of pointer) (take size (drop stamp s.now)) }
+    certificate: usize,
+    signature: usize,
+    next: usize,
+) -> StampPart
+    requires { (width ≤ width_most) × (next + ballot_size width ≤ length s.now) }
+    ensures places { (result.certificate ≡ certificate) × (result.signature ≡ signature) }
+    ensures index { result.index ≡ number_at 4 s.now (next + 2 + width + width) }
+    ensures pointer { bytes_of result.pointer
+        ≡ take 32 (drop (next + 2 + width + width + 4) s.now) }
 {
+    let last_index = next + TERM_AT + width + width;
+    StampPart {
+        certificate,
+        signature,
+        index: words::u32_at(s, last_index),
+        pointer: lm_hash::value_at(s, last_index + log_chain::INDEX_SIZE),
+    }
+}
+
+// Whether a stamp is good: its certificate's candidate's, in that term, on its record.
+fn stamp_good(roster: &[u8], s: &[u8], width: usize, size: usize, stamp: StampPart) -> bool
+    requires { (roster_number roster.now ≡ 0) × (width ≤ width_most)
+        × (stamp.certificate + ballot_size width ≤ length s.now)
+        × (0 < number_at 2 s.now stamp.certificate)
+        × (number_at 2 s.now stamp.certificate ≤ replicas roster.now)
+        × (stamp.signature + size ≤ length s.now) }
+    ensures { result ≡ good (key_of roster.now (number_at 2 s.now stamp.certificate)) (1
+        ∷ cluster roster.now ++ be width (number_at width s.now (stamp.certificate + 2))
+        ++ be 4 stamp.index ++ bytes_of stamp.pointer) (take size (drop stamp.signature s.now)) }
+{
+    let at = stamp.certificate;
     let term = words::number_at(s, at + TERM_AT, width);
     let mut statement = [0u8; STATEMENT_MOST];
     let length = log_chain::put_place_statement(
@@ -46,15 +72,15 @@ fn stamp_good(
         &roster[..roster::NAME_SIZE],
         width,
         term,
-        index,
-        pointer,
+        stamp.index,
+        stamp.pointer,
     );
-    let end = stamp + size;
+    let end = stamp.signature + size;
     submission_slots::signature_genuine(
         roster,
         words::u16_at(s, at) as usize,
         &statement[..length],
-        &s[stamp..end],
+        &s[stamp.signature..end],
     )
 }
 
@@ -68,32 +94,25 @@ pub fn stamps_good(roster: &[u8], s: &[u8], shape: Shape, pointer: State) -> boo
         ≡ every (genuine_in shape.width roster.now)
         (map (stamp_of shape.size) (leads (view_in shape s.now))) }
 {
-    let mut left = shape.leaders;
     let mut at = shape.from;
     let mut stamp = shape.stamps;
-    while 1 < left {
+    for _ in 1..shape.leaders {
         let next = submission_parts::certificate_end(s, at, shape.width, shape.size);
-        let last_index = next + TERM_AT + shape.width + shape.width;
-        let index = words::u32_at(s, last_index);
-        let last = lm_hash::value_at(s, last_index + log_chain::INDEX_SIZE);
-        if !stamp_good(roster, s, shape.width, shape.size, at, stamp, index, last) {
+        let part = stamp_before(s, shape.width, at, stamp, next);
+        if !stamp_good(roster, s, shape.width, shape.size, part) {
             return false;
         }
         at = next;
         stamp += shape.size;
-        left -= 1;
     }
-    if left == 0 {
+    if shape.leaders == 0 {
         return true;
     }
-    stamp_good(
-        roster,
-        s,
-        shape.width,
-        shape.size,
-        at,
-        stamp,
-        shape.records as u32,
+    let last = StampPart {
+        certificate: at,
+        signature: stamp,
+        index: shape.records as u32,
         pointer,
-    )
+    };
+    stamp_good(roster, s, shape.width, shape.size, last)
 }

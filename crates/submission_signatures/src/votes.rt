@@ -48,14 +48,12 @@ pub fn votes_good(roster: &[u8], s: &[u8], shape: Shape) -> bool
         ≡ every (genuine_in shape.width roster.now)
         (flat_map (ballots shape.size) (view_in shape s.now).leaders) }
 {
-    let mut left = shape.leaders;
     let mut at = shape.from;
-    while 0 < left {
+    for _ in 0..shape.leaders {
         if !votes_good_at(roster, s, shape.width, shape.size, at) {
             return false;
         }
         at = submission_parts::certificate_end(s, at, shape.width, shape.size);
-        left -= 1;
     }
     true
 }

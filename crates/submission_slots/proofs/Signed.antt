@@ -4,10 +4,11 @@ use mathlib.Core.Path.{◌≡◌, refl, sym, ◌∙◌}
 use mathlib.Core.Bool.{Bool, true, false, not, cond}
 use mathlib.Core.List.{List, [], ◌∷◌}
 use Prim.Native.Nat.{ℕ, zero, suc, ◌+◌, ◌-◌, ◌*◌, ◌/◌, ◌%◌, ◌^◌, ◌≤◌, ◌<◌}
-use native.Mathlib.Nat.{mul-suc, pow-suc}
+use native.Mathlib.Nat.{mul-suc, pow-suc, div-one, div-div-eq-div-mul}
 use native.Mathlib.Numerals.{add-one}
 use native.Mathlib.Omega.{arith}
-use borrow.Author.Tests.{not-true, not-false, le-ltb, eq-eqb, ne_eqb}
+use borrow.Author.Tests.{not-true, not-false, le-ltb, eq-eqb, ne_eqb, eqb-true, eqb-false}
+use lib.Dec.{eqb}
 use lib.Count.{ones, ones_step}
 use lib.ListN.{length, take, drop}
 use lib.Seq.{drop-drop}
@@ -16,7 +17,7 @@ use Rattle.sha256.specs.Service.{limit, too_long}
 use Rattle.lm_answer.specs.declared.Answer.TheVariants.{Good, Bad, Long}
 use Rattle.lms.specs.Check.{good, steps_of, verdict, answer}
 use Rattle.roster.specs.Roster.{key_of}
-use Rattle.roster.specs.Masks.{replicas_from, replicas_of}
+use Rattle.roster.specs.Masks.{signer, replicas_from, replicas_of}
 use Rattle.log_chain.specs.Log.{Form}
 use Rattle.log_chain.specs.Claim.{Claim, say}
 use Rattle.submission.specs.View.{certified, slot}
@@ -96,6 +97,25 @@ module _ (roster message : List ℕ) (S : ℕ) (s : List ℕ) where
     pub none_left : 16 ≤ k → true ≡ b
     unfolding good_from replicas_from good_all
     none_left h = let none : 16 - k ≡ 0 = omega arith in rw none at left
+
+-- ---- the bits of a mask that are left
+
+pub all_bits : (mask : ℕ) → mask / 2 ^ 0 ≡ mask
+all_bits mask = div-one mask
+
+pub next_bits : (mask k : ℕ) → mask / 2 ^ (k + 1) ≡ mask / 2 ^ k / 2
+next_bits mask k = rw (add-one, pow-suc, div-div-eq-div-mul)
+
+module _ (mask k : ℕ) {b : Bool} (asked : b ≡ signer mask (k + 1)) where
+  bit : b ≡ eqb (mask / 2 ^ k % 2) 1
+  unfolding signer
+  bit = let place : k + 1 - 1 ≡ k = omega arith in rw place at asked
+
+  pub is_one : b ≡ true → mask / 2 ^ k % 2 ≡ 1
+  is_one e = eqb-true (mask / 2 ^ k % 2) 1 (sym bit ∙ e)
+
+  pub no_one : b ≡ false → mask / 2 ^ k % 2 ≡ 1 → ⊥
+  no_one e = eqb-false (mask / 2 ^ k % 2) 1 (sym bit ∙ e)
 
 -- ---- the replicas of a mask of n bits are at most n, and their signatures lie inside
 

@@ -40,16 +40,11 @@ pub fn certificate_signatures_good(
     ensures { result ≡ good_all roster.now message.now size (replicas_of mask)
         (drop at s.now) }
 {
-    let mut k = 0;
-    let mut rest = mask;
     let mut from = at;
-    while k < roster::MASK_BITS {
-        let bit = rest % 2;
-        rest /= 2;
-        k += 1;
-        if bit == 1 {
+    for k in 0..roster::MASK_BITS {
+        if roster::signer(mask, k + 1) {
             let end = from + size;
-            if !signature_genuine(roster, k, message, &s[from..end]) {
+            if !signature_genuine(roster, k + 1, message, &s[from..end]) {
                 return false;
             }
             from = end;

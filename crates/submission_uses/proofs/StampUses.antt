@@ -8,7 +8,6 @@ use borrow.Author.Tests.{eq-eqb, ne_eqb}
 use lib.ListN.{length}
 use Rattle.words.specs.BigEndian.{number_at}
 use Rattle.refusal.specs.Checks.{every}
-use Rattle.sha256.specs.declared.State.{State}
 use Rattle.sha256.specs.Sha256.{bytes_of}
 use Rattle.roster.specs.Roster.{cluster, key_of}
 use Rattle.log_chain.specs.Log.{with_terms, Record, pointer, last_term}
@@ -24,7 +23,7 @@ use Rattle.submission.specs.Validate.{genuine, slot_use, uses}
 use Rattle.submission.proofs.Linked.{lead_at, leads_from, leads-first, TermsLeft, Turn}
 use Rattle.submission_signatures.proofs.StampsLeft.{StampsLeft, this}
 use Rattle.submission_leaves.specs.Entries.{padded_use}
-use Rattle.submission_uses.specs.declared.StampPart.{StampPart}
+use Rattle.submission_signatures.specs.declared.stamps.StampPart.{StampPart}
 use Rattle.submission_uses.specs.Signed.{slot_use_in}
 use Rattle.submission_uses.specs.StampUses.{stamp_uses}
 use Rattle.submission_uses.proofs.Gathered.{put_then}
@@ -46,13 +45,13 @@ module _ (roster s : List ℕ) (w k : ℕ) (x : StampPart) where
 
 module _ (roster s : List ℕ) (w S k : ℕ) (wide : leaf_size ≤ S) where
   -- a stamp by its fields is that of its term
-  stamp-uses : (at stamp index : ℕ) (p : State) (r : Run) → number_at w s (at + 2) ≡ last_term r.upto → length r.upto ≡ index
-      → bytes_of p ≡ pointer (with_terms w []) r.upto
-      → stamp_uses roster s w k (record { certificate = at; signature = stamp; index = index; pointer = p })
+  stamp-uses : (at stamp : ℕ) (x : StampPart) (r : Run) → x.certificate ≡ at → x.signature ≡ stamp → number_at w s (at + 2) ≡ last_term r.upto
+      → length r.upto ≡ x.index → bytes_of x.pointer ≡ pointer (with_terms w []) r.upto
+      → stamp_uses roster s w k x
       ≡ uses (slot_use_in w roster) k (stamp_of S (lead_at roster s w S at stamp r) ∷ [])
   unfolding stamp_uses uses stamp_of slot slot_use lead_at certificate_at ballot_at
-  stamp-uses at stamp index p r term long pointed =
-      rw (term, stamp-said (cluster roster) w r.upto (last_term r.upto) index (bytes_of p) long pointed, leaf_at_lem (key_of roster (number_at 2 s at)) s S stamp wide)
+  stamp-uses at stamp x r place signed term long pointed =
+      rw (place, signed, term, stamp-said (cluster roster) w r.upto (last_term r.upto) x.index (bytes_of x.pointer) long pointed, leaf_at_lem (key_of roster (number_at 2 s at)) s S stamp wide)
 
   module _ (log : List Record) (all : List Use) where
     pub record StampsToPut (now : List Use) (left at stamp : ℕ) : Type 0 where
@@ -73,12 +72,12 @@ module _ (roster s : List ℕ) (w S k : ℕ) (wide : leaf_size ≤ S) where
       abbrev turned : Turn roster s w S log left at stamp x.before x.runs
       turned = this roster s w S log left at stamp checked more
 
-      pub stamp-put : (index : ℕ) (p : State) {next : List Use} → length turned.of.upto ≡ index → bytes_of p ≡ pointer (with_terms w []) turned.of.upto
-          → next ≡ now ++ map padded_use (stamp_uses roster s w k (record { certificate = at; signature = stamp; index = index; pointer = p }))
+      pub stamp-put : (part : StampPart) {next : List Use} → part.certificate ≡ at → part.signature ≡ stamp → length turned.of.upto ≡ part.index
+          → bytes_of part.pointer ≡ pointer (with_terms w []) turned.of.upto → next ≡ now ++ map padded_use (stamp_uses roster s w k part)
           → StampsToPut next (left - 1) (certificate_end w S s at) (stamp + S)
-      stamp-put index p long pointed put =
+      stamp-put part place signed long pointed put =
           let t = turned in
-          let one = put ∙ ap (λ z. now ++ map padded_use z) (stamp-uses at stamp index p t.of t.facts.term long pointed) in
+          let one = put ∙ ap (λ z. now ++ map padded_use z) (stamp-uses at stamp part t.of place signed t.facts.term long pointed) in
           record {
             before = t.of.upto;
             runs = t.later;

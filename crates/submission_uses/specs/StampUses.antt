@@ -6,7 +6,7 @@ use Rattle.lm_format.specs.Leaf.{leaf_at}
 use Rattle.lm_format.specs.Uses.{Use, use_of}
 use Rattle.roster.specs.Roster.{cluster}
 use Rattle.log_chain.specs.Sizes.{place_statement}
-use Rattle.submission_uses.specs.declared.StampPart.{StampPart}
+use Rattle.submission_signatures.specs.declared.stamps.StampPart.{StampPart}
 
 -- where the certificate's candidate is replica k
 unfoldable pub stamp_uses : List ℕ → List ℕ → ℕ → ℕ → StampPart → List Use

@@ -13,21 +13,11 @@ ghost use Rattle.submission_leaves.specs.Entries.{entry_size, padded_use, entry_
 ghost use Rattle.submission_uses.specs.Signed as inner;
 
 use log_terms::LogPointers;
-use sha256::State;
 use submission_parts::Shape;
 
 pub mod receipts;
 pub mod stamps;
 pub mod votes;
-
-// Where a stamp stands and that of the leader certificate it goes with, and the record that it is on.
-#[derive(Clone, Copy)]
-pub struct StampPart {
-    pub certificate: usize,
-    pub signature: usize,
-    pub index: u32,
-    pub pointer: State,
-}
 
 // The place of replica k's signature among those of a mask's replicas, from a place on.
 pub fn signature_place(mask: u16, k: usize, size: usize, from: usize) -> usize

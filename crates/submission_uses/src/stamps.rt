@@ -15,11 +15,11 @@ ghost use Rattle.submission_leaves.specs.Entries.{entry_size, padded_use, entry_
 ghost use Rattle.submission_uses.specs.Signed.{slot_use_in};
 ghost use Rattle.submission_uses.specs.StampUses.{stamp_uses};
 
-use super::StampPart;
 use log_chain::Kind;
 use sha256::State;
 use submission::{STATEMENT_MOST, TERM_AT};
 use submission_parts::Shape;
+use submission_signatures::stamps::{self, StampPart};
 
 // Puts a stamp, where it is replica k's.
 fn add_stamp(
@@ -80,32 +80,24 @@ pub fn add_stamps(
 {
     let width = shape.width;
     let size = shape.size;
-    let mut left = shape.leaders;
     let mut at = shape.from;
     let mut stamp = shape.stamps;
     let mut count = n;
-    while 1 < left {
+    for _ in 1..shape.leaders {
         let next = submission_parts::certificate_end(s, at, width, size);
-        let last_index = next + TERM_AT + width + width;
-        let part = StampPart {
-            certificate: at,
-            signature: stamp,
-            index: words::u32_at(s, last_index),
-            pointer: lm_hash::value_at(s, last_index + log_chain::INDEX_SIZE),
-        };
+        let part = stamps::stamp_before(s, width, at, stamp, next);
         count = add_stamp(roster, s, width, part, k, buffer, count);
         at = next;
         stamp += size;
-        left -= 1;
     }
-    if left == 0 {
+    if shape.leaders == 0 {
         return count;
     }
     let last = StampPart {
         certificate: at,
         signature: stamp,
         index: shape.records as u32,
-        pointer: pointer,
+        pointer,
     };
     add_stamp(roster, s, width, last, k, buffer, count)
 }

@@ -70,13 +70,11 @@ pub fn add_votes(
         ++ map padded_use (uses (slot_use_in shape.width roster.now) k
         (flat_map (ballots shape.size) (view_in shape s.now).leaders)) }
 {
-    let mut left = shape.leaders;
     let mut at = shape.from;
     let mut count = n;
-    while 0 < left {
+    for _ in 0..shape.leaders {
         count = add_vote(roster, s, shape.width, shape.size, at, k, buffer, count);
         at = submission_parts::certificate_end(s, at, shape.width, shape.size);
-        left -= 1;
     }
     count
 }

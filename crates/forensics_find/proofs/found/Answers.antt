@@ -1,7 +1,10 @@
 -- The fork and the rows from the first difference of the logs and the receipts.
+use mathlib.Core.Path.{◌≡◌}
 use native.Mathlib.Omega.{arith}
+use Rattle.std.specs.Prelude.{unwrap_or}
 use Rattle.submission_parts.proofs.Inside.{records-inside}
-use Rattle.forensics_find.proofs.Reached.{index_above}
+use Rattle.forensics_charges.specs.Charges.{difference_of}
+use Rattle.forensics_find.proofs.Reached.{index_kept}
 use Rattle.forensics_find.proofs.Shown.{read-says}
 use Rattle.forensics_find.proofs.found.Goals as goal
 
@@ -11,8 +14,8 @@ record_count-requires c = c.requires.0.long
 pub record_count-requires-2 : goal.record_count-requires-2
 record_count-requires-2 c = c.requires.3.long
 
-pub difference-index-requires : goal.difference-index-requires
-difference-index-requires c =
+pub difference-difference-requires : goal.difference-difference-requires
+difference-difference-requires c =
     let a = c.args in
     let p = c.requires in
     rw (c.record_count.ensures.0, c.record_count-2.ensures.0)
@@ -30,11 +33,13 @@ rows-requires c = let p = c.requires in (p.0, p.1, p.3, p.4)
 pub returns-clause-findings : goal.returns-clause-findings
 returns-clause-findings c =
     let a = c.args in
-    read-says a.width a.size a.a.now a.b.now _ _ c.difference-index.ensures
+    let d = c.difference-difference.result in
+    let is : d ≡ difference_of (unwrap_or d 0) = index_kept d c.difference-difference.ensures.from_one in
+    read-says a.width a.size a.a.now a.b.now _ _ c.difference-difference.ensures.index
     c.record_count.ensures.0
     c.record_count-2.ensures.0
-    c.receipts_of-first.ensures c.receipts_of-second.ensures (rw c.differing-difference.ensures at c.fork.ensures.index)
-    (rw c.differing-difference.ensures at c.rows.ensures)
+    c.receipts_of-first.ensures c.receipts_of-second.ensures (rw is at c.fork.ensures.index)
+    (rw is at c.rows.ensures)
 
 pub returns-clause-fork : goal.returns-clause-fork
-returns-clause-fork c = c.fork.ensures.from_one (rw c.differing-difference.ensures (index_above c.difference-index.result))
+returns-clause-fork c = c.fork.ensures.from_one c.difference-difference.ensures.from_one

@@ -1,11 +1,11 @@
 -- Nine words in their places, and the others as they were.
-use Rattle.sha256_lanes.specs.Lane.{first, second, third, fourth, pick, lane, state}
+use Rattle.sha256_lanes.specs.Lane.{first, second, third, fourth, lane}
 use Rattle.sha256_lane_words.proofs.Each.{each}
 use Rattle.lm_chain_blocks.proofs.Blocks.{moved_on}
 use Rattle.lm_chain_blocks.proofs.next_blocks.Goals as goal
 
 pub returns : goal.returns
-unfolding pick lane state
+unfolding lane
 returns c =
     let h1 = c.put_first.ensures in
     let h2 = c.put_middle.ensures in

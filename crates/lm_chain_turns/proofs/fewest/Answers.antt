@@ -1,18 +1,21 @@
 -- What is left of the chain that is furthest on.
 use native.Mathlib.Omega.{arith}
-use Rattle.sha256_lanes.specs.Lane.{first, second, third, fourth, pick, lane}
+use Rattle.sha256_lanes.specs.Lane.{first, second, third, fourth, lane}
 use Rattle.sha256_lane_words.proofs.Each.{each}
 use Rattle.lm_chain_turns.proofs.fewest.Goals as goal
 
 pub overflow_sub-result : goal.overflow_sub-result
-unfolding pick lane
+unfolding lane
 overflow_sub-result c =
     let p = c.requires in
-    c.larger-3.ensures.2 _ (c.larger.ensures.2 _ (p first) (p second)) (c.larger-2.ensures.2 _ (p third) (p fourth))
+    omega (arith, p first, p second, p third, p fourth)
 
 pub returns : goal.returns
-unfolding pick lane
+unfolding lane
 returns c =
     let p = c.requires in
-    let top = c.larger-3.ensures.2 _ (c.larger.ensures.2 _ (p first) (p second)) (c.larger-2.ensures.2 _ (p third) (p fourth)) in
-    each _ (omega arith) (omega arith) (omega arith) (omega arith)
+    each _
+    (omega (arith, p first, p second, p third, p fourth))
+    (omega (arith, p first, p second, p third, p fourth))
+    (omega (arith, p first, p second, p third, p fourth))
+    (omega (arith, p first, p second, p third, p fourth))

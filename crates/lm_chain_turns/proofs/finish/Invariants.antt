@@ -1,5 +1,5 @@
 -- A step of the chain a turn.
-use Prim.Native.Nat.{◌-◌, ◌≤◌}
+use Prim.Native.Nat.{◌-◌}
 use mathlib.Core.Path.{◌≡◌}
 use Rattle.sha256.specs.Sha256.{bytes_of}
 use Rattle.lm_hash.specs.Identifier.{identifier}
@@ -8,8 +8,5 @@ use Rattle.lm_chain_turns.proofs.finish.Given as goal
 
 abbrev pub invariant-loop-j : goal.invariant-loop-j
 invariant-loop-j l =
-    (l.j ≤ l.last)
-    × (chain (identifier l.leaf) l.leaf.q l.i (l.last - l.j) l.j (bytes_of l.t) ≡ chain (identifier l.leaf) l.leaf.q l.i (l.last - l.initial.j) l.initial.j (bytes_of l.initial.t))
-
-abbrev pub decreases-loop-j : goal.decreases-loop-j
-decreases-loop-j l = l.last - l.j
+    chain (identifier l.leaf) l.leaf.q l.i (l.last - l.j) l.j (bytes_of l.t)
+    ≡ chain (identifier l.leaf) l.leaf.q l.i (l.last - l.initial.j) l.initial.j (bytes_of l.initial.t)

@@ -4,14 +4,14 @@ use lib.ListN.{length-set}
 use Rattle.lm_chain_turns.proofs.Walks.{set_four}
 use Rattle.lm_chain_turns.proofs.put_steps.Goals as goal
 
-pub bounds-steps-i1 : goal.bounds-steps-i1
-bounds-steps-i1 c = simp length-set (omega arith)
+pub bounds-steps-i-2 : goal.bounds-steps-i-2
+bounds-steps-i-2 c = simp length-set (omega arith)
 
-pub bounds-steps-i2 : goal.bounds-steps-i2
-bounds-steps-i2 c = simp length-set (omega arith)
+pub bounds-steps-i-3 : goal.bounds-steps-i-3
+bounds-steps-i-3 c = simp length-set (omega arith)
 
-pub bounds-steps-i3 : goal.bounds-steps-i3
-bounds-steps-i3 c = simp length-set (omega arith)
+pub bounds-steps-i-4 : goal.bounds-steps-i-4
+bounds-steps-i-4 c = simp length-set (omega arith)
 
 pub shape_of-steps : goal.shape_of-steps
 shape_of-steps c = simp length-set
@@ -20,4 +20,4 @@ pub returns : goal.returns
 returns c =
     let a = c.args in
     let p = c.requires in
-    set_four a.steps.now a.i0 a.i1 a.i2 a.i3 _ _ _ _ p.0 p.1 p.2 p.3
+    set_four a.steps.now a.i.0 a.i.1 a.i.2 a.i.3 _ _ _ _ p.0 p.1 p.2 p.3

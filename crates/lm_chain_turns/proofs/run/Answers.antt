@@ -1,27 +1,18 @@
 -- The chain of each lane.
-use mathlib.Core.Path.{ap, ◌∙◌}
+use mathlib.Core.Path.{◌≡◌}
 use native.Mathlib.Omega.{arith}
-use Rattle.lm_hash.specs.Identifier.{identifier}
-use Rattle.sha256_lanes.specs.Lane.{first, second, third, fourth, pick, lane, state}
-use Rattle.sha256_lane_words.proofs.Each.{each}
-use Rattle.lm_chain.specs.Chain.{chain}
+use borrow.Author.Rules.{rules}
+use Rattle.sha256_lanes.specs.Lane.{lane}
 use Rattle.lm_chain_turns.proofs.run.Goals as goal
 
 pub run-requires : goal.run-requires
-unfolding pick lane
 run-requires c =
-    let p = c.requires in
-    each _ (omega arith, p.5 first) (omega arith, p.5 second) (omega arith, p.5 third) (omega arith, p.5 fourth)
+    λ l. let number : lane l c.map.result ≡ lane l c.args.i = let h = c.map.ensures l in search rules in
+    let p = c.requires.1 l in
+    (omega arith, p.1)
 
 pub returns : goal.returns
-unfolding pick lane state
 returns c =
-    let a = c.args in
-    let r = c.run.ensures in
-    let t = c.four_at.ensures in
-    let from = chain (identifier a.leaf) a.leaf.q in
-    each _
-    (r first ∙ ap (from a.i0 a.n a.j.0) (t first))
-    (r second ∙ ap (from a.i1 a.n a.j.1) (t second))
-    (r third ∙ ap (from a.i2 a.n a.j.2) (t third))
-    (r fourth ∙ ap (from a.i3 a.n a.j.3) (t fourth))
+    λ l. let number : lane l c.map.result ≡ lane l c.args.i = let h = c.map.ensures l in search rules in
+    let value = c.four_at.ensures l in
+    rw (number, value) at (c.run.ensures l)

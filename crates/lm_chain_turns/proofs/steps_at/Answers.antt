@@ -1,9 +1,6 @@
--- The four as they stand.
-use mathlib.Core.Path.{refl}
-use Rattle.sha256_lanes.specs.Lane.{pick, lane}
-use Rattle.sha256_lane_words.proofs.Each.{each}
+-- The step of each lane's chain.
+use Rattle.std.proofs.Common.{rules}
 use Rattle.lm_chain_turns.proofs.steps_at.Goals as goal
 
 pub returns : goal.returns
-unfolding pick lane
-returns c = each _ refl refl refl refl
+returns c = λ l. let h = c.map.ensures l in search rules

@@ -9,10 +9,10 @@ use Rattle.sha256_lane_words.proofs.Places.{changed-same, changed-other}
 use Rattle.lm_chain_values.proofs.load.Goals as goal
 
 pub loop-i-init : goal.loop-i-init
-loop-i-init c = (omega arith, refl, λ k h. absurd (omega arith))
+loop-i-init c = (refl, λ k h. absurd (omega arith))
 
 pub slice_bounds-put_value-end : goal.slice_bounds-put_value-end
-slice_bounds-put_value-end c = sym c.loop-i.invariant.1
+slice_bounds-put_value-end c = sym c.loop-i.invariant.0
 
 pub loop-i-preserved : goal.loop-i-preserved
 loop-i-preserved c =
@@ -20,11 +20,10 @@ loop-i-preserved c =
     let t = c.loop-i in
     let put = c.put_value.ensures in (
       omega arith,
-      omega arith,
       one_more (λ (k : ℕ). value_at c.put_value.new.v k ≡ take 32 (drop (32 * k) a.y.now)) t.i
-          (λ k h. put k ∙ changed-other t.i _ _ k (λ e. omega arith) ∙ t.invariant.2 k h)
+          (λ k h. put k ∙ changed-other t.i _ _ k (λ e. omega arith) ∙ t.invariant.1 k h)
           (put t.i ∙ changed-same t.i _ _ ∙ c.value_at.ensures),
     )
 
 pub returns : goal.returns
-returns c = λ k h. c.loop-i.invariant.2 k (omega arith)
+returns c = λ k h. c.loop-i.invariant.1 k (omega arith)

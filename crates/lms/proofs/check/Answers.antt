@@ -37,7 +37,7 @@ returns-in_default-height_of c =
     let key = a.key.now in
     let message = a.message.now in
     let sig = a.signature.now in
-    no-height key message sig c.if-message-gt-MESSAGE_MAX.false c.if-key-ne-KEY_SIZE.false _ (sym (c.one_time.ensures ∙ ap one_time c.u32_at.ensures.0) ∙ c.in-Known.is) (sym (c.height_of.ensures ∙ ap height c.u32_at-2.ensures.0) ∙ c.in_default-height_of.is)
+    no-height key message sig c.if-message-gt-MESSAGE_MAX.false c.if-key-ne-KEY_SIZE.false _ (sym (c.one_time.ensures ∙ ap one_time c.u32_at.ensures.0) ∙ c.in-Some.is) (sym (c.height_of.ensures ∙ ap height c.u32_at-2.ensures.0) ∙ c.in_default-height_of.is)
 
 pub verify-requires : goal.verify-requires
 verify-requires c =
@@ -45,8 +45,8 @@ verify-requires c =
     let key = a.key.now in
     let message = a.message.now in
     let sig = a.signature.now in (
-      record { number = number_at 4 key 4; found = (sym (c.one_time.ensures ∙ ap one_time c.u32_at.ensures.0) ∙ c.in-Known.is) },
-      height-le (number_at 4 key 0) (sym (c.height_of.ensures ∙ ap height c.u32_at-2.ensures.0) ∙ c.in-Levels.is),
+      record { number = number_at 4 key 4; found = (sym (c.one_time.ensures ∙ ap one_time c.u32_at.ensures.0) ∙ c.in-Some.is) },
+      height-le (number_at 4 key 0) (sym (c.height_of.ensures ∙ ap height c.u32_at-2.ensures.0) ∙ c.in-Some-height_of.is),
       c.if-key-ne-KEY_SIZE.false,
       c.if-message-gt-MESSAGE_MAX.false,
     )
@@ -57,5 +57,5 @@ returns c =
     let key = a.key.now in
     let message = a.message.now in
     let sig = a.signature.now in
-    by-types key message sig c.if-message-gt-MESSAGE_MAX.false c.if-key-ne-KEY_SIZE.false _ (sym (c.one_time.ensures ∙ ap one_time c.u32_at.ensures.0) ∙ c.in-Known.is) _ (sym (c.height_of.ensures ∙ ap height c.u32_at-2.ensures.0) ∙ c.in-Levels.is)
+    by-types key message sig c.if-message-gt-MESSAGE_MAX.false c.if-key-ne-KEY_SIZE.false _ (sym (c.one_time.ensures ∙ ap one_time c.u32_at.ensures.0) ∙ c.in-Some.is) _ (sym (c.height_of.ensures ∙ ap height c.u32_at-2.ensures.0) ∙ c.in-Some-height_of.is)
     c.verify.ensures

@@ -1,7 +1,8 @@
--- The kit's comparison of two slices says whether the lists are the same.
+-- The comparison of two slices says whether the lists are the same.
 use mathlib.Core.Path.{ap, ◌∙◌}
 use mathlib.Core.List.{List}
 use Prim.Native.Nat.{ℕ, ◌-◌}
+use lib.Pointwise.{bytes_decides}
 use lib.ListN.{length, take, drop}
 use Rattle.words.specs.BigEndian.{same}
 use Rattle.words.proofs.Laws.{part_end}
@@ -12,6 +13,7 @@ use Rattle.lms.proofs.matches.Goals as goal
 pub returns : goal.returns
 returns c =
     let key = c.args.key.now in
-    same_test c.same.result _ _ c.same.ensures
-    ∙ ap (λ (l : List ℕ). same l (take (length key - 24) (drop 24 key))) c.bytes-bytes.ensures
+    c.eq.ensures
+    ∙ same_test _ _ _ (bytes_decides _ _)
+    ∙ ap (λ (l : List ℕ). same l (take (length key - 24) (drop 24 key))) c.bytes.ensures
     ∙ ap (same (bytes_of c.args.root)) (part_end key 24)

@@ -47,8 +47,8 @@ same_part-requires c =
     let size = c.record_size-size.ensures.0 in
     (ends a.width i a.first _ _ size (omega arith) c.requires.1, ends a.width i a.second _ _ size (omega arith) c.requires.2)
 
-pub returns-then-not-same_part : goal.returns-then-not-same_part
-returns-then-not-same_part c =
+pub returns-then-not-same_part-clause-index : goal.returns-then-not-same_part-clause-index
+returns-then-not-same_part-clause-index c =
     let a = c.args in
     let l = c.loop-i in
     let test = compared a.width l.i a.first a.second c.record_size-size.result a.a.now a.b.now
@@ -73,8 +73,8 @@ loop-i-preserved c =
     (test ∙ sym c.same_part.ensures ∙ c.if-not-same_part.false))
     ∙ l.invariant)
 
-pub returns : goal.returns
-returns c =
+pub returns-clause-index : goal.returns-clause-index
+returns-clause-index c =
     let a = c.args in
     let l = c.loop-i in
     sym (from-end a.width a.first a.second a.a.now a.b.now l.i (omega arith)) ∙ l.invariant

@@ -1,18 +1,13 @@
--- Each variant has the definition's levels, of which no height has more than 25.
-use mathlib.Core.Path.{sym, ◌∙◌}
-use lib.Dec.{lit≤}
+-- An unlisted height has no levels, and no height has more than 25.
+use mathlib.Core.Path.{◌≡◌, ap, ◌∙◌}
+use Rattle.std.specs.Prelude.{unwrap_or}
+use Rattle.lm_format.specs.Format.{height}
 use Rattle.roster.specs.Roster.{levels}
 use Rattle.roster.proofs.Accepted.{levels-le}
 use Rattle.roster.proofs.levels.Goals as goal
 
-pub returns-in-Levels : goal.returns-in-Levels
+pub returns : goal.returns
 unfolding levels
-returns-in-Levels c =
-    let e = sym c.height_of.ensures ∙ c.in-Levels.is in
-    (rw e, rw e at (levels-le c.args.number))
-
-pub returns-in-Unknown : goal.returns-in-Unknown
-unfolding levels
-returns-in-Unknown c =
-    let e = sym c.height_of.ensures ∙ c.in-Unknown.is in
-    (rw e, lit≤ tt)
+returns c =
+    let e : c.unwrap_or.result ≡ unwrap_or (height c.args.number) 0 = c.unwrap_or.ensures ∙ ap (λ h. unwrap_or h 0) c.height_of.ensures in
+    (e, rw e (levels-le c.args.number))

@@ -1,9 +1,9 @@
 -- The same in each lane.
 use mathlib.Core.Path.{refl}
-use Rattle.sha256_lane_words.specs.Lane.{lane, pick}
+use Rattle.sha256_lane_words.specs.Lane.{lane}
 use Rattle.sha256_lane_words.proofs.Each.{each}
 use Rattle.sha256_lane_words.proofs.same.Goals as goal
 
 pub returns : goal.returns
-unfolding lane pick
-returns c = each _ refl refl refl refl
+unfolding lane
+returns g c = each _ refl refl refl refl

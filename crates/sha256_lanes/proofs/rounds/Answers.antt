@@ -5,8 +5,8 @@ use mathlib.Core.List.{List}
 use native.Mathlib.Omega.{arith}
 use lib.ListN.{length, get_or}
 use Rattle.sha256.specs.Sha256.{schedule, rounds}
-use Rattle.sha256_lanes.specs.Lane.{state, word_in}
-use Rattle.sha256_lanes.proofs.Turns.{alike, block-word, round_turn}
+use Rattle.sha256_lanes.specs.Lane.{lane, word_in}
+use Rattle.sha256_lanes.proofs.Turns.{block-word, round_turn}
 use Rattle.sha256_lanes.proofs.rounds.Goals as goal
 use Rattle.sha256_lanes.proofs.rounds.Goals.{then-i-ge-BLOCK_WORDS, else-i-ge-BLOCK_WORDS}
 
@@ -74,10 +74,10 @@ pub shape_of-w : goal.shape_of-w
 shape_of-w c = let e = c.loop-i.invariant.3 in omega arith
 
 pub returns : goal.returns
-unfolding state
+unfolding lane
 returns c =
     let t = c.loop-i in
     let end : t.i ≡ 64 = omega arith in
     λ l m long e.
     let f = t.invariant.5 l m long e in
-    (λ n h. f.0 n (omega arith) ∙ block-word m long n h, (rw end at f.1) ∙ ap (rounds 60 4 (schedule m)) (alike l c.args.u))
+    (λ n h. f.0 n (omega arith) ∙ block-word m long n h, (rw end at f.1) ∙ ap (rounds 60 4 (schedule m)) (c.same-s.ensures l))

@@ -2,12 +2,12 @@
 use mathlib.Core.Path.{ap, ◌∙◌}
 use Rattle.sha256.specs.declared.State.{State}
 use Rattle.sha256.specs.Sha256.{round}
-use Rattle.sha256_lanes.specs.Lane.{lane, pick, state}
+use Rattle.sha256_lanes.specs.Lane.{lane}
 use Rattle.sha256_lane_words.proofs.Each.{each}
 use Rattle.sha256_lanes.proofs.step.Goals as goal
 
 pub returns : goal.returns
-unfolding lane pick state
+unfolding lane
 returns c =
     let a = c.args in
     each _

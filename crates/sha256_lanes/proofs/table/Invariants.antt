@@ -1,5 +1,5 @@
 -- One constant a turn.
-use Prim.Native.Nat.{ℕ, ◌-◌, ◌≤◌, ◌<◌}
+use Prim.Native.Nat.{ℕ, ◌<◌}
 use mathlib.Core.Path.{◌≡◌}
 use lib.ListN.{length, get_or}
 use Rattle.sha256_tables.specs.Constants.{constants}
@@ -7,7 +7,4 @@ use Rattle.sha256_lanes.specs.Lane.{Lane, word_in}
 use Rattle.sha256_lanes.proofs.table.Given as goal
 
 abbrev pub invariant-loop-i : goal.invariant-loop-i
-invariant-loop-i now = (now.i ≤ 64) × (length now.r ≡ 256) × ((l : Lane) (n : ℕ) → n < now.i → word_in l now.r n ≡ get_or constants n 0)
-
-abbrev pub decreases-loop-i : goal.decreases-loop-i
-decreases-loop-i l = 64 - l.i
+invariant-loop-i now = (length now.r ≡ 256) × ((l : Lane) (n : ℕ) → n < now.i → word_in l now.r n ≡ get_or constants n 0)

@@ -1,5 +1,5 @@
 -- A word a turn.
-use Prim.Native.Nat.{ℕ, ◌+◌, ◌-◌, ◌≤◌, ◌<◌}
+use Prim.Native.Nat.{ℕ, ◌+◌, ◌≤◌, ◌<◌}
 use mathlib.Core.Path.{◌≡◌}
 use mathlib.Core.List.{List}
 use lib.ListN.{length, get_or}
@@ -9,9 +9,6 @@ use Rattle.sha256_lanes.proofs.words_at.Given as goal
 
 abbrev pub invariant-loop-j : goal.invariant-loop-j
 invariant-loop-j now =
-    (now.j ≤ 2) × (length now.w ≡ length now.initial.w)
+    (length now.w ≡ length now.initial.w)
     × ((l : Lane) (m : List ℕ) → length m ≡ 16 → now.i + 2 ≤ 64 → ((n : ℕ) → n < now.i → word_in l now.initial.w n ≡ get_or (schedule m) n 0)
-    → (n : ℕ) → n < now.i + now.j → word_in l now.w n ≡ get_or (schedule m) n 0)
-
-abbrev pub decreases-loop-j : goal.decreases-loop-j
-decreases-loop-j l = 2 - l.j
+    → (n : ℕ) → n < now.j → word_in l now.w n ≡ get_or (schedule m) n 0)

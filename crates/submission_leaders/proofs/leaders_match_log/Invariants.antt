@@ -12,16 +12,14 @@ use Rattle.log_terms.specs.Pointed.{PointersCarried}
 use Rattle.submission.specs.Validate.{leading}
 use Rattle.submission_leaders.proofs.leaders_match_log.Given as goal
 
-abbrev pub invariant-loop-left : goal.invariant-loop-left
-invariant-loop-left l =
+abbrev pub invariant-loop : goal.invariant-loop
+invariant-loop l =
     let w = l.shape.width in
     let S = l.shape.size in
     let i = l.walked.end in
-    (l.left ≤ l.shape.leaders) × (i ≤ l.shape.records) × (l.left ≡ length (runs_left w l.shape.records i l.s)) × (certificates_end w S l.s l.left l.place ≤ length l.s)
+    let left = l.shape.leaders - l.counter in
+    (i ≤ l.shape.records) × (left ≡ length (runs_left w l.shape.records i l.s)) × (certificates_end w S l.s left l.place ≤ length l.s)
     × PointersCarried w l.commit i l.s l.walked.pointers
     × ((name : List ℕ)
-    → every (leading (with_terms w name) l.n) (leads_of (certificates w S l.s l.left l.place) (runs_left w l.shape.records i l.s) (drop (l.shape.leaders - l.left) (view w S l.s).stamps))
+    → every (leading (with_terms w name) l.n) (leads_of (certificates w S l.s left l.place) (runs_left w l.shape.records i l.s) (drop l.counter (view w S l.s).stamps))
     ≡ every (leading (with_terms w name) l.n) (leads (view w S l.s)))
-
-abbrev pub decreases-loop-left : goal.decreases-loop-left
-decreases-loop-left l = l.left

@@ -1,7 +1,7 @@
 -- One bit of the mask a turn: the signatures of the replicas that are left give what all of them give. A replica's key lies inside, since no bit
 -- stands above replica n.
 use mathlib.Core.Path.{◌≡◌}
-use Prim.Native.Nat.{◌+◌, ◌-◌, ◌*◌, ◌^◌, ◌≤◌, ◌<◌}
+use Prim.Native.Nat.{◌+◌, ◌-◌, ◌*◌, ◌/◌, ◌^◌, ◌≤◌, ◌<◌}
 use lib.Count.{ones}
 use lib.ListN.{length, drop}
 use Rattle.roster.specs.Roster.{replicas}
@@ -12,8 +12,5 @@ use Rattle.submission_slots.proofs.certificate_signatures_good.Given as goal
 
 abbrev pub invariant-loop-k : goal.invariant-loop-k
 invariant-loop-k l =
-    (l.k ≤ 16) × (l.rest < 2 ^ (replicas l.roster - l.k)) × (l.from + l.size * ones l.rest ≤ length l.s)
-    × (good_from l.roster l.message l.size l.s l.k l.rest l.from ≡ good_all l.roster l.message l.size (replicas_of l.mask) (drop l.at l.s))
-
-abbrev pub decreases-loop-k : goal.decreases-loop-k
-decreases-loop-k l = 16 - l.k
+    (l.mask / 2 ^ l.k < 2 ^ (replicas l.roster - l.k)) × (l.from + l.size * ones (l.mask / 2 ^ l.k) ≤ length l.s)
+    × (good_from l.roster l.message l.size l.s l.k (l.mask / 2 ^ l.k) l.from ≡ good_all l.roster l.message l.size (replicas_of l.mask) (drop l.at l.s))

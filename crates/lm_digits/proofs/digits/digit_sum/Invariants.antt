@@ -1,11 +1,7 @@
 -- One digit a turn, and the sum of at most 265 digits fits.
-use Prim.Native.Nat.{◌-◌, ◌≤◌}
 use mathlib.Core.Path.{◌≡◌}
 use Rattle.lm_digits.specs.Digits.{sum}
 use Rattle.lm_digits.proofs.digits.digit_sum.Given as goal
 
 abbrev pub invariant-loop-i : goal.invariant-loop-i
-invariant-loop-i l = (l.i ≤ l.count) × (l.total ≡ sum l.bits l.s l.i)
-
-abbrev pub decreases-loop-i : goal.decreases-loop-i
-decreases-loop-i l = l.count - l.i
+invariant-loop-i l = l.total ≡ sum l.bits l.s l.i

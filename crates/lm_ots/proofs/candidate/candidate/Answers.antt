@@ -10,7 +10,7 @@ use Rattle.lm_hash.specs.Identifier.{identifier}
 use Rattle.lm_hash.specs.Tagged.{tagged}
 use Rattle.lm_digits.specs.Digits.{with_checksum, steps}
 use Rattle.lm_ots.specs.Candidate.{D-MESG, D-PBLC, message_hash, ends, candidate}
-use Rattle.lm_ots.proofs.Rows.{few}
+use Rattle.lm_digits.proofs.Rows.{few}
 use borrow.Author.Rules.{rules}
 use Rattle.lm_ots.proofs.candidate.candidate.Goals as goal
 

@@ -6,7 +6,8 @@ use lib.Seq.{length-sets}
 use Rattle.sha256.specs.Sha256.{bytes_of}
 use Rattle.lm_hash.specs.Identifier.{identifier}
 use Rattle.lm_hash.proofs.Values.{length-bytes}
-use Rattle.lm_ots.proofs.Rows.{few, joined, joined_step, joined-ends}
+use Rattle.lm_digits.proofs.Rows.{few}
+use Rattle.lm_ots.proofs.Rows.{joined, joined_step, joined-ends}
 use borrow.Author.Rules.{rules}
 use Rattle.lm_ots.proofs.candidate.put_ends.Goals as goal
 
@@ -17,18 +18,18 @@ walk-v-requires c =
 
 pub loop-i-init : goal.loop-i-init
 unfolding joined
-loop-i-init c = (omega arith, refl, refl, search rules)
+loop-i-init c = (refl, refl, search rules)
 
 pub overflow_mul-i : goal.overflow_mul-i
 overflow_mul-i c =
     omega (arith, few c.args.o c.requires.0)
 
 pub slice_bounds-value_at-end : goal.slice_bounds-value_at-end
-slice_bounds-value_at-end c = sym c.loop-i.invariant.3
+slice_bounds-value_at-end c = sym c.loop-i.invariant.2
 
 pub value_at-requires : goal.value_at-requires
 value_at-requires c =
-    omega (arith, few c.args.o c.requires.0, c.loop-i.invariant.3)
+    omega (arith, few c.args.o c.requires.0, c.loop-i.invariant.2)
 
 pub put_value-requires : goal.put_value-requires
 put_value-requires c = omega (arith, c.requires.3)
@@ -38,20 +39,19 @@ loop-i-preserved c =
     let l = c.loop-i in
     let z = c.value_at.result in
     let put = c.put_value.ensures in (
-      omega arith,
-      rw (put, length-sets l.out (32 * l.i) (bytes_of z)) l.invariant.1,
+      rw (put, length-sets l.out (32 * l.i) (bytes_of z)) l.invariant.0,
       rw put
-          (joined_step c.walk-v.result l.out (bytes_of z) l.i c.value_at.ensures (length-bytes z) (omega (arith, c.requires.3)) l.invariant.2),
-      l.invariant.3,
+          (joined_step c.walk-v.result l.out (bytes_of z) l.i c.value_at.ensures (length-bytes z) (omega (arith, c.requires.3)) l.invariant.1),
+      l.invariant.2,
     )
 
 pub shape_of-out : goal.shape_of-out
-shape_of-out c = c.loop-i.invariant.1
+shape_of-out c = c.loop-i.invariant.0
 
 pub returns : goal.returns
 returns c =
     let a = c.args in
     let l = c.loop-i in
     let all : l.i ≡ a.o.chains = omega arith in
-    (rw all at l.invariant.2)
+    (rw all at l.invariant.1)
     ∙ joined-ends a.o (identifier a.leaf) a.leaf.q a.s.now a.y.now c.walk-v.result a.o.chains c.walk-v.ensures

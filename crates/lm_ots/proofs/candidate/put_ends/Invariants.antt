@@ -7,7 +7,4 @@ use Rattle.lm_ots.proofs.candidate.put_ends.Given as goal
 
 abbrev pub invariant-loop-i : goal.invariant-loop-i
 invariant-loop-i l =
-    (l.i ≤ l.chains) × (length l.out ≡ length l.initial.out) × (take (32 * l.i) l.out ≡ joined l.v l.i) × (length l.v ≡ 2120)
-
-abbrev pub decreases-loop-i : goal.decreases-loop-i
-decreases-loop-i l = l.chains - l.i
+    (length l.out ≡ length l.initial.out) × (take (32 * l.i) l.out ≡ joined l.v l.i) × (length l.v ≡ 2120)

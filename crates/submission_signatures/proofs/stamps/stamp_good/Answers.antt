@@ -49,7 +49,7 @@ pub returns : goal.returns
 unfolding cluster
 returns c =
     let a = c.args in
-    let count : a.stamp + a.size - a.stamp ≡ a.size = omega arith in
+    let count : a.stamp.signature + a.size - a.stamp.signature ≡ a.size = omega arith in
     c.signature_genuine.ensures
     ∙ rw (
       c.u16_at.ensures.0,

@@ -2,7 +2,7 @@
 use mathlib.Core.Path.{◌≡◌}
 use mathlib.Core.Bool.{true}
 use mathlib.Core.List.{flat_map}
-use Prim.Native.Nat.{◌≤◌}
+use Prim.Native.Nat.{◌-◌, ◌≤◌}
 use lib.ListN.{length}
 use Rattle.refusal.specs.Checks.{every}
 use Rattle.roster.specs.Roster.{cluster, replicas}
@@ -13,13 +13,11 @@ use Rattle.submission_signatures.specs.Votes.{ballots}
 use Rattle.submission_signatures.proofs.Quorate.{quorate_all}
 use Rattle.submission_signatures.proofs.votes.votes_good.Given as goal
 
-abbrev pub invariant-loop-left : goal.invariant-loop-left
-invariant-loop-left l =
+abbrev pub invariant-loop : goal.invariant-loop
+invariant-loop l =
     let w = l.shape.width in
     let S = l.shape.size in
-    (certificates_end w S l.s l.left l.at ≤ length l.s) × (quorate_all (replicas l.roster) (certificates w S l.s l.left l.at) ≡ true)
-    × (every (genuine (with_terms w (cluster l.roster)) l.roster) (flat_map (ballots S) (certificates w S l.s l.left l.at))
+    let left = l.shape.leaders - l.counter in
+    (certificates_end w S l.s left l.at ≤ length l.s) × (quorate_all (replicas l.roster) (certificates w S l.s left l.at) ≡ true)
+    × (every (genuine (with_terms w (cluster l.roster)) l.roster) (flat_map (ballots S) (certificates w S l.s left l.at))
     ≡ every (genuine (with_terms w (cluster l.roster)) l.roster) (flat_map (ballots S) (view w S l.s).leaders))
-
-abbrev pub decreases-loop-left : goal.decreases-loop-left
-decreases-loop-left l = l.left
