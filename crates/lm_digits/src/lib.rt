@@ -21,6 +21,13 @@ pub struct Parameters {
     pub shift: u32,
 }
 
+// A value, and the chain steps that lead to it (document 02, W7).
+#[derive(Clone, Copy)]
+pub struct WithSteps<T> {
+    pub value: T,
+    pub steps: u32,
+}
+
 // The parameters of a type number, if it is listed.
 #[tactic(auto, unfolding(crate::specs::Parameters::one_time, crate::specs::Parameters::row))]
 pub fn one_time(number: u32) -> Option<Parameters>

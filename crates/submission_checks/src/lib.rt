@@ -1,13 +1,13 @@
-// The number of the first check that a submission does not meet (document 01, "What stops an audit": the
-// lowest number that applies), each check asked after those before it; and the pointers that check 13's walk
+// The first check that a submission does not meet (document 01, "What stops an audit": the lowest number that
+// applies), each check asked after those before it; or, where all are met, the pointers that check 13's walk
 // over the log hands on (document 02, W2). The term's width is fixed here, by the version, and free below.
 #![tactic(auto)]
 
 ghost use Rattle.std.specs.Prelude.{◌≡◌, [], length};
 ghost use Rattle.refusal.specs.Checks.{refusal, first};
+ghost use Rattle.refusal.specs.Refusals.{number_of};
 ghost use Rattle.roster.specs.Roster.{roster_number};
-ghost use Rattle.log_chain.specs.Log.{Form, with_terms};
-ghost use Rattle.log_terms.specs.Pointed.{PointersOf};
+ghost use Rattle.log_chain.specs.Log.{with_terms};
 ghost use Rattle.submission.specs.Reading.{view};
 ghost use Rattle.submission_parts.specs.Parts.{Bounds};
 ghost use Rattle.submission_parts.specs.Shapes.{Known, view_in};
@@ -17,26 +17,8 @@ ghost use Rattle.submission_checks.specs.Checks.{leader_checks, log_checks, part
 ghost use Rattle.submission_checks.specs.Pointers.{PointersHanded};
 
 use log_terms::LogPointers;
+use refusal::Refusal;
 use submission_parts::Shape;
-
-// What validating a submission gives: its number, and the pointers of its committed records and of its log,
-// both pointer 0 where it is refused.
-#[derive(Clone, Copy)]
-pub struct Validated {
-    pub number: u32,
-    pub pointers: LogPointers,
-}
-
-// A refusal with this number, and pointer 0 twice.
-fn refused(number: u32) -> Validated
-    ensures number { result.number ≡ number }
-    ensures pointers { (form : Form) → PointersOf form [] [] result.pointers }
-{
-    Validated {
-        number,
-        pointers: log_terms::pointers::pointers_zero(),
-    }
-}
 
 // 14: whether the commit index is not 0 and not above H, where there is one.
 fn index_within_log(s: &[u8], shape: Shape) -> bool
@@ -55,60 +37,62 @@ fn index_within_log(s: &[u8], shape: Shape) -> bool
 }
 
 // 13 to 15.
-fn validate_leaders(roster: &[u8], s: &[u8], shape: Shape) -> Validated
+fn validate_leaders(roster: &[u8], s: &[u8], shape: Shape) -> Result<LogPointers, Refusal>
     requires { Counted roster.now shape s.now }
-    ensures number { result.number ≡ refusal (leader_checks roster.now shape.width
+    ensures number { number_of result ≡ refusal (leader_checks roster.now shape.width
         shape.size s.now) }
     ensures pointers { PointersHanded (with_terms shape.width []) (view_in shape s.now)
         result }
 {
     let n = roster::replicas(roster);
     let Some(pointers) = submission_leaders::leaders_match_log(s, n, shape) else {
-        return refused(13);
+        return Err(Refusal::Leader);
     };
     if !index_within_log(s, shape) {
-        return refused(14);
+        return Err(Refusal::CommitIndex);
     }
     if !submission_signatures::all_signatures_good(roster, s, shape, pointers) {
-        return refused(15);
+        return Err(Refusal::Signature);
     }
-    Validated {
-        number: 0,
-        pointers,
-    }
+    Ok(pointers)
 }
 
 // 11 to 15.
-fn validate_log(roster: &[u8], s: &[u8], shape: Shape) -> Validated
+fn validate_log(roster: &[u8], s: &[u8], shape: Shape) -> Result<LogPointers, Refusal>
     requires { Laid roster.now shape s.now }
-    ensures number { result.number ≡ refusal (log_checks roster.now shape.width shape.size
+    ensures number { number_of result ≡ refusal (log_checks roster.now shape.width shape.size
         s.now) }
     ensures pointers { PointersHanded (with_terms shape.width []) (view_in shape s.now)
         result }
 {
     if !log_terms::terms_in_order(s, shape.width, shape.records) {
-        return refused(11);
+        return Err(Refusal::TermOrder);
     }
     let runs = log_terms::run_count(s, shape.width, shape.records);
     if shape.leaders != runs {
-        return refused(12);
+        return Err(Refusal::TermCount);
     }
     validate_leaders(roster, s, shape)
 }
 
 // 9 to 15.
-fn validate_parts(roster: &[u8], s: &[u8], width: usize, size: usize) -> Validated
+fn validate_parts(
+    roster: &[u8],
+    s: &[u8],
+    width: usize,
+    size: usize,
+) -> Result<LogPointers, Refusal>
     requires { (roster_number roster.now ≡ 0) × Bounds width size s.now }
-    ensures number { result.number ≡ refusal (part_checks roster.now width size
+    ensures number { number_of result ≡ refusal (part_checks roster.now width size
         s.now) }
     ensures pointers { PointersHanded (with_terms width []) (view width size s.now) result }
 {
     if !submission_parts::layout::parts_laid_out(s, width, size) {
-        return refused(9);
+        return Err(Refusal::Layout);
     }
     let n = roster::replicas(roster);
     if !submission_quorums::all_signers_quorate(s, n, width, size) {
-        return refused(10);
+        return Err(Refusal::Signers);
     }
     validate_log(
         roster,
@@ -118,38 +102,35 @@ fn validate_parts(roster: &[u8], s: &[u8], width: usize, size: usize) -> Validat
 }
 
 // 5 to 15, against a roster that has no refusal.
-pub fn validate_submission(roster: &[u8], s: &[u8]) -> Validated
+pub fn validate_submission(roster: &[u8], s: &[u8]) -> Result<LogPointers, Refusal>
     requires { roster_number roster.now ≡ 0 }
-    ensures number { result.number ≡ paper.validate roster.now s.now }
+    ensures number { number_of result ≡ paper.validate roster.now s.now }
     ensures pointers { PointersHanded (paper.form_of roster.now)
         (paper.view_of roster.now s.now) result }
 {
     if !submission_trailer::size_in_range(s) {
-        return refused(5);
+        return Err(Refusal::Size);
     }
     if !submission_trailer::version_known(s) {
-        return refused(6);
+        return Err(Refusal::Version);
     }
     if !submission_trailer::name_matches(roster, s) {
-        return refused(7);
+        return Err(Refusal::Cluster);
     }
     if !submission_trailer::counts_in_range(s) {
-        return refused(8);
+        return Err(Refusal::Counts);
     }
     let size = roster::signature_size(roster);
     validate_parts(roster, s, submission_trailer::TERM_SIZE, size)
 }
 
 // The roster's refusal, or what the submission gets against it.
-pub fn validate(roster: &[u8], s: &[u8]) -> Validated
-    ensures number { result.number ≡ first (roster_number roster.now)
+pub fn validate(roster: &[u8], s: &[u8]) -> Result<LogPointers, Refusal>
+    ensures number { number_of result ≡ first (roster_number roster.now)
         (paper.validate roster.now s.now) }
     ensures pointers { PointersHanded (paper.form_of roster.now)
         (paper.view_of roster.now s.now) result }
 {
-    let number = roster_checks::validate(roster);
-    if number != 0 {
-        return refused(number);
-    }
+    roster_checks::validate(roster)?;
     validate_submission(roster, s)
 }

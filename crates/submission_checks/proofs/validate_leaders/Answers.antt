@@ -6,7 +6,6 @@ use Rattle.roster.proofs.Accepted.{sizes}
 use Rattle.std.specs.Prelude.{is_some}
 use Rattle.submission_checks.specs.Checks.{leader_checks}
 use Rattle.submission_checks.proofs.Facts.{asked_leading, leaders_passed}
-use Rattle.submission_checks.proofs.Pointers.{refuses}
 use mathlib.Core.Path.{ap}
 use mathlib.Core.Bool.{not}
 use Rattle.submission_checks.proofs.validate_leaders.Goals as goal
@@ -21,7 +20,7 @@ pub returns-in_default : goal.returns-in_default
 unfolding leader_checks
 returns-in_default c =
     let led = asked_leading _ _ _ _ c.replicas-n.ensures.0 c.leaders_match_log.ensures.holds in
-    refuses _ _ _ (omega arith) c.refused.ensures (refused 13 _ _ (sym led ∙ ap is_some c.in_default.is))
+    record { number = sym (refused 13 _ _ (sym led ∙ ap is_some c.in_default.is)); pointers = tt }
 
 pub index_within_log-requires : goal.index_within_log-requires
 index_within_log-requires c = c.requires.laid.known
@@ -30,8 +29,7 @@ pub returns-then-not-index_within_log : goal.returns-then-not-index_within_log
 unfolding leader_checks
 returns-then-not-index_within_log c =
     let led = asked_leading _ _ _ _ c.replicas-n.ensures.0 c.leaders_match_log.ensures.holds in
-    refuses _ _ _ (omega arith) c.refused-then-not-index_within_log.ensures
-    (passed 13 _ _ (sym led ∙ ap is_some c.in-Some.is) ∙ refused 14 _ _ (unmet c.index_within_log.ensures (ap not c.if-not-index_within_log.true)))
+    record { number = sym (passed 13 _ _ (sym led ∙ ap is_some c.in-Some.is) ∙ refused 14 _ _ (unmet c.index_within_log.ensures (ap not c.if-not-index_within_log.true))); pointers = tt }
 
 pub all_signatures_good-requires : goal.all_signatures_good-requires
 all_signatures_good-requires c =
@@ -44,9 +42,11 @@ pub returns-then-not-all_signatures_good : goal.returns-then-not-all_signatures_
 unfolding leader_checks
 returns-then-not-all_signatures_good c =
     let led = asked_leading _ _ _ _ c.replicas-n.ensures.0 c.leaders_match_log.ensures.holds in
-    refuses _ _ _ (omega arith) c.refused-then-not-all_signatures_good.ensures
-    (passed 13 _ _ (sym led ∙ ap is_some c.in-Some.is) ∙ passed 14 _ _ (met c.index_within_log.ensures (ap not c.if-not-index_within_log.false))
-    ∙ refused 15 _ _ (unmet c.all_signatures_good.ensures (ap not c.if-not-all_signatures_good.true)))
+    record {
+      number = sym (passed 13 _ _ (sym led ∙ ap is_some c.in-Some.is) ∙ passed 14 _ _ (met c.index_within_log.ensures (ap not c.if-not-index_within_log.false))
+          ∙ refused 15 _ _ (unmet c.all_signatures_good.ensures (ap not c.if-not-all_signatures_good.true)));
+      pointers = tt;
+    }
 
 pub returns : goal.returns
 returns c =

@@ -5,7 +5,6 @@ use Rattle.refusal.proofs.Laws.{passed, refused, met, unmet}
 use Rattle.roster.proofs.Accepted.{sizes}
 use Rattle.submission_parts.specs.Shapes.{shape_of}
 use Rattle.submission_checks.specs.Checks.{part_checks}
-use Rattle.submission_checks.proofs.Pointers.{refuses}
 use mathlib.Core.Path.{ap}
 use mathlib.Core.Bool.{not}
 use Rattle.submission_checks.proofs.validate_parts.Goals as goal
@@ -16,8 +15,7 @@ parts_laid_out-requires c = c.requires.1
 pub returns-then-not-parts_laid_out : goal.returns-then-not-parts_laid_out
 unfolding part_checks
 returns-then-not-parts_laid_out c =
-    refuses _ _ _ (omega arith) c.refused.ensures
-    (refused 9 _ _ (unmet c.parts_laid_out.ensures (ap not c.if-not-parts_laid_out.true)))
+    record { number = sym (refused 9 _ _ (unmet c.parts_laid_out.ensures (ap not c.if-not-parts_laid_out.true))); pointers = tt }
 
 pub replicas-n-requires : goal.replicas-n-requires
 replicas-n-requires c = let z = sizes _ c.requires.0 in omega arith
@@ -32,8 +30,7 @@ pub returns-then-not-all_signers_quorate : goal.returns-then-not-all_signers_quo
 unfolding part_checks
 returns-then-not-all_signers_quorate c =
     let asked = rw c.replicas-n.ensures.0 at c.all_signers_quorate.ensures in
-    refuses _ _ _ (omega arith) c.refused-then-not-all_signers_quorate.ensures
-    (passed 9 _ _ (met c.parts_laid_out.ensures (ap not c.if-not-parts_laid_out.false)) ∙ refused 10 _ _ (unmet asked (ap not c.if-not-all_signers_quorate.true)))
+    record { number = sym (passed 9 _ _ (met c.parts_laid_out.ensures (ap not c.if-not-parts_laid_out.false)) ∙ refused 10 _ _ (unmet asked (ap not c.if-not-all_signers_quorate.true))); pointers = tt }
 
 pub shape_of-requires : goal.shape_of-requires
 shape_of-requires c =

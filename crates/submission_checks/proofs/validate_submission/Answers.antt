@@ -1,5 +1,5 @@
 -- The size first, then what the trailer says, then the parts.
-use mathlib.Core.Path.{refl, ◌∙◌}
+use mathlib.Core.Path.{refl, sym, ◌∙◌}
 use mathlib.Core.List.{[]}
 use native.Mathlib.Omega.{arith}
 use lib.Dec.{lit≤}
@@ -9,7 +9,7 @@ use Rattle.log_chain.specs.Log.{with_terms, version1}
 use Rattle.submission.specs.Validate.{form_of, view_of, validate}
 use Rattle.submission_parts.proofs.Inside.{bounds}
 use Rattle.submission_checks.proofs.Facts.{sized-long, trailer_passed}
-use Rattle.submission_checks.proofs.Pointers.{refuses, form_hands}
+use Rattle.submission_checks.proofs.Pointers.{form_hands}
 use mathlib.Core.Path.{ap}
 use mathlib.Core.Bool.{not}
 use Rattle.submission_checks.proofs.validate_submission.Goals as goal
@@ -17,8 +17,7 @@ use Rattle.submission_checks.proofs.validate_submission.Goals as goal
 pub returns-then-not-size_in_range : goal.returns-then-not-size_in_range
 unfolding validate
 returns-then-not-size_in_range c =
-    refuses _ _ _ (omega arith) c.refused.ensures
-    (refused 5 _ _ (unmet c.size_in_range.ensures (ap not c.if-not-size_in_range.true)))
+    record { number = sym (refused 5 _ _ (unmet c.size_in_range.ensures (ap not c.if-not-size_in_range.true))); pointers = tt }
 
 pub version_known-requires : goal.version_known-requires
 version_known-requires c = sized-long _ (met c.size_in_range.ensures (ap not c.if-not-size_in_range.false))
@@ -26,8 +25,7 @@ version_known-requires c = sized-long _ (met c.size_in_range.ensures (ap not c.i
 pub returns-then-not-version_known : goal.returns-then-not-version_known
 unfolding validate
 returns-then-not-version_known c =
-    refuses _ _ _ (omega arith) c.refused-then-not-version_known.ensures
-    (passed 5 _ _ (met c.size_in_range.ensures (ap not c.if-not-size_in_range.false)) ∙ refused 6 _ _ (unmet c.version_known.ensures (ap not c.if-not-version_known.true)))
+    record { number = sym (passed 5 _ _ (met c.size_in_range.ensures (ap not c.if-not-size_in_range.false)) ∙ refused 6 _ _ (unmet c.version_known.ensures (ap not c.if-not-version_known.true))); pointers = tt }
 
 pub name_matches-requires : goal.name_matches-requires
 name_matches-requires c =
@@ -37,9 +35,11 @@ name_matches-requires c =
 pub returns-then-not-name_matches : goal.returns-then-not-name_matches
 unfolding validate
 returns-then-not-name_matches c =
-    refuses _ _ _ (omega arith) c.refused-then-not-name_matches.ensures
-    (passed 5 _ _ (met c.size_in_range.ensures (ap not c.if-not-size_in_range.false)) ∙ passed 6 _ _ (met c.version_known.ensures (ap not c.if-not-version_known.false))
-    ∙ refused 7 _ _ (unmet c.name_matches.ensures (ap not c.if-not-name_matches.true)))
+    record {
+      number = sym (passed 5 _ _ (met c.size_in_range.ensures (ap not c.if-not-size_in_range.false)) ∙ passed 6 _ _ (met c.version_known.ensures (ap not c.if-not-version_known.false))
+          ∙ refused 7 _ _ (unmet c.name_matches.ensures (ap not c.if-not-name_matches.true)));
+      pointers = tt;
+    }
 
 pub counts_in_range-requires : goal.counts_in_range-requires
 counts_in_range-requires c =
@@ -48,9 +48,11 @@ counts_in_range-requires c =
 pub returns-then-not-counts_in_range : goal.returns-then-not-counts_in_range
 unfolding validate
 returns-then-not-counts_in_range c =
-    refuses _ _ _ (omega arith) c.refused-then-not-counts_in_range.ensures
-    (passed 5 _ _ (met c.size_in_range.ensures (ap not c.if-not-size_in_range.false)) ∙ passed 6 _ _ (met c.version_known.ensures (ap not c.if-not-version_known.false))
-    ∙ passed 7 _ _ (met c.name_matches.ensures (ap not c.if-not-name_matches.false)) ∙ refused 8 _ _ (unmet c.counts_in_range.ensures (ap not c.if-not-counts_in_range.true)))
+    record {
+      number = sym (passed 5 _ _ (met c.size_in_range.ensures (ap not c.if-not-size_in_range.false)) ∙ passed 6 _ _ (met c.version_known.ensures (ap not c.if-not-version_known.false))
+          ∙ passed 7 _ _ (met c.name_matches.ensures (ap not c.if-not-name_matches.false)) ∙ refused 8 _ _ (unmet c.counts_in_range.ensures (ap not c.if-not-counts_in_range.true)));
+      pointers = tt;
+    }
 
 pub signature_size-size-requires : goal.signature_size-size-requires
 signature_size-size-requires c =

@@ -58,10 +58,10 @@ returns c =
     let I = identifier leaf in
     let Q = message_hash I leaf.q (take 32 sig) message in
     let hash : c.bytes.result ≡ Q = c.bytes.ensures ∙ c.tagged_message-q.ensures in
-    let s : c.with_checksum-checked.result.bytes ≡ with_checksum o Q =
+    let s : c.with_checksum-checked.result.value ≡ with_checksum o Q =
     c.with_checksum-checked.ensures.bytes ∙ ap (with_checksum o) hash in
     let all : take (32 * o.chains) c.put_ends.new.out ≡ ends o I leaf.q (with_checksum o Q) (drop 32 sig) o.chains =
     c.put_ends.ensures
-    ∙ ap (λ (y : List ℕ). ends o I leaf.q c.with_checksum-checked.result.bytes y o.chains) (part_end sig 32)
+    ∙ ap (λ (y : List ℕ). ends o I leaf.q c.with_checksum-checked.result.value y o.chains) (part_end sig 32)
     ∙ ap (λ (d : List ℕ). ends o I leaf.q d (drop 32 sig) o.chains) s in
     record { key = c.tagged.ensures ∙ ap (tagged I leaf.q D-PBLC) all; steps = c.with_checksum-checked.ensures.steps ∙ ap (steps o) hash }
