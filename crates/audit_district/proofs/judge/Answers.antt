@@ -10,6 +10,7 @@ use lib.Seq.{take_all, sets, length-sets}
 use Rattle.words.specs.BigEndian.{be}
 use Rattle.words.specs.Over.{over}
 use Rattle.submission.specs.Validate.{form_of, view_of, validate}
+use Rattle.refusal.specs.Refusals.{number_of}
 use Rattle.submission_checks.specs.Pointers.{PointersHanded}
 use Rattle.district_parts.specs.Parts.{parts, total, count_most}
 use Rattle.district_parts.proofs.Parts.{parts-length, sum_next, counted-most}
@@ -75,13 +76,13 @@ loop-i-preserved c =
     let inside : l.i < length L = search rules in
     let next : l.i + 1 ≡ suc l.i = omega arith in
     let validated = c.validate_submission-validated.result in
-    let number : validated.number ≡ validate R (this R B L l.i inside) =
+    let number : number_of validated ≡ validate R (this R B L l.i inside) =
     c.validate_submission-validated.ensures.number ∙ ap (validate R) (part_from B l.at size ∙ ap (λ (k : ℕ). take size (drop k B)) l.invariant.0) in
     let handed : PointersHanded (form_of R) (view_of R (take size (drop l.at B))) validated =
     rw (← part_from B l.at size) c.validate_submission-validated.ensures.pointers in
     let put = c.put_u8 in
     let bytes : put.new.out ≡ over (number_bytes R (take (suc l.i) (parts L B))) a.report.now =
-    put.ensures ∙ (λ k. sets (l.invariant.1 k) l.i (be 1 (number k))) ∙ number_put R B L l.i inside a.report.now c.requires.3 in (
+    put.ensures ∙ (λ k. sets (l.invariant.1 k) l.i (be 1 ((c.number_of.ensures ∙ number) k))) ∙ number_put R B L l.i inside a.report.now c.requires.3 in (
       ap (λ (k : ℕ). k + size) l.invariant.0 ∙ sym (sum_next L l.i inside) ∙ ap (λ (k : ℕ). total (take k L)) (sym next),
       bytes ∙ ap (λ (k : ℕ). over (number_bytes R (take k (parts L B))) a.report.now) (sym next),
       entries_next R B L l.i inside l.entries c.with_judged-entries.result validated l.at size l.invariant.0 refl number
