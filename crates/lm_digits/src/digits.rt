@@ -22,7 +22,7 @@ pub fn digit(s: &[u8], bits: u32, i: usize) -> u32
     let at = i / each;
     let before = bits * ((i % each) as u32);
     let after = 8 - (before + bits);
-    (words::wide(s[at]) >> after) % (1 << bits)
+    (u32::from(s[at]) >> after) % (1 << bits)
 }
 
 // How many digits Q has (RFC 8554, appendix B: u).
@@ -58,8 +58,8 @@ fn join_checksum(q: [u8; HASH_SIZE], checksum: u32) -> [u8; CHECKED_SIZE]
     s
 }
 
-// Q || Cksm(Q) (RFC 8554, 4.6, algorithm 4b, step 3), with the steps of all chains: the sum over the digits of Q is the
-// checksum before its shift, and the steps are that sum over all digits.
+// Q || Cksm(Q) (RFC 8554, 4.6, algorithm 4b, step 3), with the steps of all chains for it (document 02, W7):
+// the sum over the digits of Q is the checksum before its shift, and the steps are that sum over all digits.
 pub fn with_checksum(q: [u8; HASH_SIZE], o: Parameters) -> WithSteps<[u8; CHECKED_SIZE]>
     requires { Listed o }
     ensures bytes { result.value ≡ with_checksum o q }

@@ -34,7 +34,8 @@ fn put_ends(leaf: Leaf, o: Parameters, s: &[u8], y: &[u8], out: &mut [u8])
     }
 }
 
-// Kc, from C and y[0] to y[p-1] one after the other, with the steps of all chains that lead to it, which are counted from the digits.
+// Kc, from C and y[0] to y[p-1] one after the other, with the steps of all chains that lead to it (document
+// 02, W7), which are counted from the digits.
 pub fn candidate(leaf: Leaf, o: Parameters, message: &[u8], signature: &[u8]) -> WithSteps<State>
     requires { Listed o × (length message.now ≤ limit)
         × (length signature.now ≡ 32 * (o.chains + 1)) }

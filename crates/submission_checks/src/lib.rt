@@ -30,10 +30,7 @@ fn index_within_log(s: &[u8], shape: Shape) -> bool
         return true;
     };
     let index = c.index as usize;
-    if index == 0 {
-        return false;
-    }
-    index <= shape.records
+    0 < index && index <= shape.records
 }
 
 // 13 to 15.

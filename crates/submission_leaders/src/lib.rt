@@ -31,17 +31,12 @@ fn follows(s: &[u8], width: usize, at: usize, i: usize, before: State) -> bool
         s.now) (bytes_of before) }
 {
     let last_term = at + TERM_AT + width;
-    if words::number_at(s, last_term, width) != log_terms::last_term(s, width, i) {
-        return false;
-    }
     let last_index = last_term + width;
-    if words::u32_at(s, last_index) as usize != i {
-        return false;
-    }
     let start = last_index + log_chain::INDEX_SIZE;
     let end = start + log_chain::POINTER_SIZE;
-    let pointer = before.bytes();
-    check::same(&s[start..end], &pointer)
+    words::number_at(s, last_term, width) == log_terms::last_term(s, width, i)
+        && words::u32_at(s, last_index) as usize == i
+        && s[start..end] == before.bytes()[..]
 }
 
 // Whether its candidate is 1 to n and one of its signers.
@@ -51,14 +46,9 @@ fn elected(s: &[u8], width: usize, at: usize, n: usize) -> bool
         s.now at).candidate }
 {
     let candidate = words::u16_at(s, at) as usize;
-    if candidate < 1 {
-        return false;
-    }
-    if n < candidate {
-        return false;
-    }
     let signers = words::u16_at(s, at + submission::ballot_size(width));
-    roster::signer(signers, candidate)
+    let replica = 1 <= candidate && candidate <= n;
+    replica && roster::signer(signers, candidate)
 }
 
 // Whether the certificate at a place is that of the term after record i, which ends with record `end`.
@@ -75,13 +65,9 @@ fn leading(s: &[u8], n: usize, width: usize, at: usize, i: usize, end: usize, be
           stamp = stamp;
         }) }
 {
-    if words::number_at(s, at + TERM_AT, width) != log_terms::last_term(s, width, end) {
-        return false;
-    }
-    if !follows(s, width, at, i, before) {
-        return false;
-    }
-    elected(s, width, at, n)
+    words::number_at(s, at + TERM_AT, width) == log_terms::last_term(s, width, end)
+        && follows(s, width, at, i, before)
+        && elected(s, width, at, n)
 }
 
 // 13: where each certificate is that of its term, the pointers of the committed records and of the log, which

@@ -27,6 +27,8 @@ fn commit_stands(s: &[u8], from: usize, size: usize) -> bool
     if back == 0 {
         return true;
     }
+    // Tried as one expression with `is_some_and` and with `matches!`: the closure's clause and the guard's
+    // test are not to be cited in a proof.
     let Some((_, next)) = super::read_commit(s, from, end, size) else {
         return false;
     };
@@ -43,10 +45,8 @@ fn leaders_stand(s: &[u8], from: usize, width: usize, size: usize) -> bool
     let Some(stamps) = super::place_after(s, leaders, from, end, width, size) else {
         return false;
     };
-    if stamps + submission_trailer::distance(s, 3) != end {
-        return false;
-    }
-    commit_stands(s, stamps + leaders * size, size)
+    stamps + submission_trailer::distance(s, 3) == end
+        && commit_stands(s, stamps + leaders * size, size)
 }
 
 // The place of part 2, after the records.
@@ -72,14 +72,10 @@ pub fn parts_laid_out(s: &[u8], width: usize, size: usize) -> bool
     ensures { result ≡ paper.laid_out width size s.now }
 {
     let end = submission_trailer::trailer_at(s);
-    if submission_trailer::distance(s, 1) != end {
-        return false;
-    }
     let from = leaders_from(s, width);
-    if from + submission_trailer::distance(s, 2) != end {
-        return false;
-    }
-    leaders_stand(s, from, width, size)
+    submission_trailer::distance(s, 1) == end
+        && from + submission_trailer::distance(s, 2) == end
+        && leaders_stand(s, from, width, size)
 }
 
 // The shape of a laid-out submission.
@@ -88,8 +84,8 @@ pub fn shape_of(s: &[u8], width: usize, size: usize) -> Shape
     ensures { result ≡ shape_of width size s.now }
 {
     Shape {
-        width: width,
-        size: size,
+        width,
+        size,
         records: submission_trailer::record_count(s),
         leaders: submission_trailer::leader_count(s),
         from: leaders_from(s, width),

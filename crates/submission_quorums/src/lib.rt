@@ -15,10 +15,7 @@ pub fn mask_quorate(n: usize, mask: u16) -> bool
     requires { (0 < n) × (n ≤ 9) }
     ensures { result ≡ paper.quorate n mask }
 {
-    if u16::count_ones(mask) < roster::quorum(n) {
-        return false;
-    }
-    (mask as u32) < 1 << n
+    roster::quorum(n) <= u16::count_ones(mask) && (mask as u32) < 1 << n
 }
 
 // Whether each of so many leader certificates from a place on has a quorum of signers. All of them lie before
@@ -70,8 +67,5 @@ pub fn all_signers_quorate(s: &[u8], n: usize, width: usize, size: usize) -> boo
     let end = submission_trailer::trailer_at(s);
     let from = submission_parts::layout::leaders_from(s, width);
     let leaders = submission_trailer::leader_count(s);
-    if !leaders_quorate(s, n, leaders, from, end, width, size) {
-        return false;
-    }
-    commit_quorate(s, n, width, size)
+    leaders_quorate(s, n, leaders, from, end, width, size) && commit_quorate(s, n, width, size)
 }

@@ -42,8 +42,5 @@ pub fn all_signatures_good(roster: &[u8], s: &[u8], shape: Shape, pointers: LogP
         ≡ every (genuine_in shape.width roster.now)
         (slots shape.size (view_in shape s.now)) }
 {
-    if !votes::votes_good(roster, s, shape) {
-        return false;
-    }
-    places_good(roster, s, shape, pointers)
+    votes::votes_good(roster, s, shape) && places_good(roster, s, shape, pointers)
 }

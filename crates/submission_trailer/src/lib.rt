@@ -21,7 +21,8 @@ pub const VERSION: u32 = 1;
 
 pub const TERM_SIZE: usize = 4;
 
-// The trailer's first byte.
+// The trailer's first byte. (A type of bytes that have a trailer would ask more of callers here and in
+// `distance`, which docs/ names.)
 pub fn trailer_at(s: &[u8]) -> usize
     requires { fields.trailer_size ≤ length s.now }
     ensures { result ≡ fields.trailer_at s.now }
@@ -73,10 +74,7 @@ pub fn version(s: &[u8]) -> u32
 pub fn size_in_range(s: &[u8]) -> bool
     ensures { result ≡ paper.sized s.now }
 {
-    if s.len() < TRAILER_SIZE {
-        return false;
-    }
-    s.len() <= SUBMISSION_MOST
+    TRAILER_SIZE <= s.len() && s.len() <= SUBMISSION_MOST
 }
 
 // 6: whether the version is 1.
@@ -93,8 +91,7 @@ pub fn name_matches(roster: &[u8], s: &[u8]) -> bool
     ensures { result ≡ paper.named (cluster roster.now) s.now }
 {
     let at = trailer_at(s);
-    let end = at + roster::NAME_SIZE;
-    check::same(&s[at..end], &roster[0..roster::NAME_SIZE])
+    s[at..at + roster::NAME_SIZE] == roster[..roster::NAME_SIZE]
 }
 
 // 8: whether H is not above 4,096, and L not above 64.
@@ -102,8 +99,5 @@ pub fn counts_in_range(s: &[u8]) -> bool
     requires { fields.trailer_size ≤ length s.now }
     ensures { result ≡ paper.counted s.now }
 {
-    if RECORD_MOST < record_count(s) {
-        return false;
-    }
-    leader_count(s) <= LEADER_MOST
+    record_count(s) <= RECORD_MOST && leader_count(s) <= LEADER_MOST
 }

@@ -8,7 +8,7 @@ ghost use Rattle.refusal.specs.Refusals.{number_of};
 
 use refusal::Refusal;
 
-// The number, and the bytes that were written.
+// The number, and the bytes that were written, as C has them (include/hirelog.h).
 #[repr(C)]
 #[derive(Clone, Copy)]
 pub struct Written {

@@ -20,14 +20,6 @@ pub u32_at-requires : goal.u32_at-requires
 unfolding signature_length path_at one_time_bytes
 u32_at-requires c = omega arith
 
-pub overflow_add-end : goal.overflow_add-end
-unfolding signature_length path_at one_time_bytes
-overflow_add-end c = omega arith
-
-pub overflow_add-path : goal.overflow_add-path
-unfolding signature_length path_at one_time_bytes
-overflow_add-path c = omega arith
-
 pub slice_bounds-candidate-end : goal.slice_bounds-candidate-end
 unfolding signature_length path_at one_time_bytes
 slice_bounds-candidate-end c = omega arith

@@ -14,16 +14,16 @@ leaders_quorate-requires c =
     let inside = leaders-inside a.width a.size a.s.now p.3 in
     (p.0, p.1, omega arith, p.2.short, p.2.width, p.2.signature, rw (c.leader_count-leaders.ensures.0, c.leaders_from-from.ensures, c.trailer_at-end.ensures) inside)
 
-pub returns-then-not-leaders_quorate : goal.returns-then-not-leaders_quorate
+pub returns-else-leaders_quorate : goal.returns-else-leaders_quorate
 unfolding leaders_from
-returns-then-not-leaders_quorate c =
+returns-else-leaders_quorate c =
     let a = c.args in
     let masks = rw (c.leader_count-leaders.ensures.0, c.leaders_from-from.ensures) at c.leaders_quorate.ensures in
-    leaders-fail a.width a.size a.s.now a.n (sym masks ∙ c.if-not-leaders_quorate.true)
+    c.if-leaders_quorate.false ∙ leaders-fail a.width a.size a.s.now a.n (sym masks ∙ c.if-leaders_quorate.false)
 
-pub returns : goal.returns
+pub returns-then-leaders_quorate : goal.returns-then-leaders_quorate
 unfolding leaders_from
-returns c =
+returns-then-leaders_quorate c =
     let a = c.args in
     let masks = rw (c.leader_count-leaders.ensures.0, c.leaders_from-from.ensures) at c.leaders_quorate.ensures in
-    c.commit_quorate.ensures ∙ leaders-hold a.width a.size a.s.now a.n (sym masks ∙ c.if-not-leaders_quorate.false)
+    c.commit_quorate.ensures ∙ leaders-hold a.width a.size a.s.now a.n (sym masks ∙ c.if-leaders_quorate.true)

@@ -1,4 +1,5 @@
 -- Fewer ones than a quorum, or a bit above replica n.
+use mathlib.Core.Path.{◌∙◌}
 use native.Mathlib.Omega.{arith}
 use borrow.Author.Tests.{le-leb, lt-leb}
 use lib.Count.{ones}
@@ -8,12 +9,14 @@ use Rattle.refusal.proofs.Laws.{first_fails, first_holds, all_one}
 use Rattle.submission.specs.Validate.{quorate}
 use Rattle.submission_quorums.proofs.mask_quorate.Goals as goal
 
-pub returns-then-mask-quorum : goal.returns-then-mask-quorum
+pub returns-else-quorum-mask : goal.returns-else-quorum-mask
 unfolding quorate
-returns-then-mask-quorum c = let a = c.args in first_fails _ _ (lt-leb (quorum a.n) (ones a.mask) (omega arith))
+returns-else-quorum-mask c =
+    let few = lt-leb _ _ c.if-quorum-mask.false in
+    few ∙ first_fails _ _ (rw c.quorum.ensures at few)
 
-pub returns : goal.returns
+pub returns-then-quorum-mask : goal.returns-then-quorum-mask
 unfolding quorate
-returns c =
+returns-then-quorum-mask c =
     let a = c.args in
     rw (shifted_one a.n (omega arith)) (first_holds _ _ (le-leb (quorum a.n) (ones a.mask) (omega arith)) (all_one _))

@@ -21,9 +21,6 @@ pub tagged_message-q-requires : goal.tagged_message-q-requires
 tagged_message-q-requires c =
     (lit< tt, simp length-take (omega (arith, c.requires.2)), c.requires.1)
 
-pub with_checksum-checked-requires : goal.with_checksum-checked-requires
-with_checksum-checked-requires c = c.requires.0
-
 pub put_ends-requires : goal.put_ends-requires
 put_ends-requires c =
     let o = c.args.o in
@@ -32,10 +29,6 @@ put_ends-requires c =
     rw (part_end sig 32, length-drop) (omega (arith, c.requires.2)) in
     (c.requires.0, search rules, rest, omega (arith, few o c.requires.0))
 
-pub overflow_mul-n : goal.overflow_mul-n
-overflow_mul-n c =
-    omega (arith, few c.args.o c.requires.0)
-
 pub slice_bounds-ends-end : goal.slice_bounds-ends-end
 slice_bounds-ends-end c =
     omega (arith, few c.args.o c.requires.0, c.put_ends.auto.out)
@@ -43,10 +36,6 @@ slice_bounds-ends-end c =
 pub slice_bounds-tagged-end : goal.slice_bounds-tagged-end
 slice_bounds-tagged-end c =
     simp length-take (omega (arith, few c.args.o c.requires.0, c.put_ends.auto.out))
-
-pub tagged-requires : goal.tagged-requires
-tagged-requires c =
-    (lit< tt, simp length-take (omega (arith, few c.args.o c.requires.0)))
 
 pub returns : goal.returns
 unfolding candidate message_hash D-MESG D-PBLC
