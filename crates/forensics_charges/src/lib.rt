@@ -72,7 +72,8 @@ pub struct Findings {
     pub rows: [Option<Charge>; forensics::ROW_COUNT],
 }
 
-// A rule's place in the order for choosing a row (document 02, W6).
+// A rule's place in the order for choosing a row (document 02, W6). No derive has this order: rule 2 is
+// before rule 1, and each other byte stands where its number does.
 fn rank(rule: u8) -> u64
     ensures { result ≡ order.rank rule }
 {

@@ -36,7 +36,8 @@ fn put_last(out: &mut [u8], at: usize, word: &[u8], x: u32) -> usize
     put_end(out, next)
 }
 
-// Puts the line of a report's number and place.
+// Puts the line of a report's number and place. These and the rule are printed as the report's bytes have
+// them, and so are integers.
 pub fn put_refusal(out: &mut [u8], at: usize, number: u32, place: u32) -> usize
     requires { at + refusal_room ≤ length out.old }
     ensures { Put out.old out.new at result (refusal_line number place) refusal_room }
