@@ -28,13 +28,3 @@ impl From<Result<usize, Refusal>> for Written {
         }
     }
 }
-
-// A refusal: nothing was written.
-pub fn refused(number: u32) -> Written
-    ensures { (result.number ≡ number) × (result.length ≡ 0) }
-{
-    Written {
-        number: number,
-        length: 0,
-    }
-}
