@@ -11,6 +11,7 @@ ghost use Rattle.lm_digits.specs.Listed.{chains_most};
 ghost use Rattle.lm_chain_values.specs.Values.{value_at, values_words};
 ghost use Rattle.lm_chain_turns.specs.Ahead.{ahead};
 
+use lm_chain_order::Order;
 use lm_hash::Leaf;
 use sha256::State;
 use sha256_lane_words::Lanes;
@@ -84,14 +85,14 @@ pub fn together(leaf: Leaf, last: u32, p: usize, steps: &mut [u32], v: &mut [u32
         × (ahead (identifier leaf) leaf.q last steps.new v.new k
         ≡ ahead (identifier leaf) leaf.q last steps.old v.old k) }
 {
-    let order = lm_chain_order::in_order(steps, p);
+    let order = Order::of(steps, p);
     let mut from = 0;
     for _ in 0..p {
-        let Some(k) = lm_chain_order::next_four(&order, steps, last, from, p) else {
+        let Some((place, chains)) = order.next_four(steps, last, from, p) else {
             return;
         };
-        turn(leaf, last, k.map(|k| order[k]), steps, v);
-        from = k.0;
+        turn(leaf, last, chains, steps, v);
+        from = place;
     }
 }
 
