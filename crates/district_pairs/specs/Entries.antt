@@ -1,13 +1,15 @@
 -- The accepted submissions as the code holds them: where each stands in the buffer, its position, and its
 -- pointers.
-use Rattle.std.specs.Prelude.{◌≡◌, cond, ℕ, suc, ◌+◌, ◌≤◌, eqb, length, take, drop, Option, Some}
+use Rattle.std.specs.Prelude.{◌≡◌, cond, ℕ, suc, ◌+◌, ◌≤◌, eqb, length, take, drop}
+use Rattle.std.specs.Prelude.{Option, Some, Result, Ok, Err}
 use mathlib.Core.List.{List, [], ◌∷◌, map, Memᴰ}
 use Rattle.std.specs.Int.Bits.{bit_or}
 use Rattle.roster.specs.Roster.{roster_number}
 use Rattle.log_terms.specs.Pointed.{PointersOf}
 use Rattle.submission.specs.View.{committed}
 use Rattle.submission.specs.Validate.{form_of, view_of, validate}
-use Rattle.submission_checks.specs.declared.Validated.{Validated}
+use Rattle.log_terms.specs.declared.LogPointers.{LogPointers}
+use Rattle.refusal.specs.declared.Refusal.{Refusal}
 use Rattle.forensics.specs.Findings.{Findings, mask_of}
 use Rattle.district_parts.specs.Parts.{count_most}
 use Rattle.district.specs.declared.Fork.{Fork}
@@ -28,11 +30,10 @@ unfoldable pub entries_of : List ℕ → Entries → List Entry
 entries_of buffer e = map (entry_of buffer) (parts_of e)
 
 -- the submission of index i, from 0, if it is accepted
-unfoldable pub judged : Validated → ℕ → ℕ → ℕ → List Part
-judged validated i start size =
-    let part : Part =
-    record { position = suc i; start = start; size = size; pointers = validated.pointers } in
-    cond (eqb validated.number 0) (part ∷ []) []
+unfoldable pub judged : Result LogPointers Refusal → ℕ → ℕ → ℕ → List Part
+judged (Ok pointers) i start size =
+    record { position = suc i; start = start; size = size; pointers = pointers } ∷ []
+judged (Err refusal) i start size = []
 
 -- a submission inside the buffer that the roster accepts, with its pointers
 pub record Fit (roster buffer : List ℕ) (p : Part) : Type 0 where

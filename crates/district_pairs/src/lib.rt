@@ -13,7 +13,7 @@ use district::{Fork, Shown};
 use district_parts::COUNT_MOST;
 use forensics_charges::Findings;
 use log_terms::LogPointers;
-use submission_checks::Validated;
+use refusal::Refusal;
 
 // A submission of the buffer: its position among all, from 1, where it stands, and the pointers of its
 // committed records and of its log.
@@ -25,7 +25,8 @@ pub struct Part {
     pub pointers: LogPointers,
 }
 
-// The submissions that are accepted, in their order.
+// The submissions that are accepted, in their order. A count stands beside the array, and no `ArrayVec`: that
+// would ask `Part` for a `Default`, the zeros of `no_entries` again, and for an allocator's type.
 #[derive(Clone, Copy)]
 pub struct Entries {
     pub count: usize,
@@ -49,10 +50,10 @@ pub fn no_entries() -> Entries
     }
 }
 
-// The submissions with the next one, of index i from 0, if its number is 0.
+// The submissions with the next one, of index i from 0, if it is not refused.
 pub fn with_judged(
     entries: Entries,
-    validated: Validated,
+    validated: Result<LogPointers, Refusal>,
     i: usize,
     start: usize,
     size: usize,
@@ -61,10 +62,9 @@ pub fn with_judged(
     ensures parts { inner.parts_of result ≡ inner.parts_of entries ++ inner.judged validated i start size }
     ensures room { inner.Room (suc i) result }
 {
-    if validated.number != 0 {
+    let Ok(pointers) = validated else {
         return entries;
-    }
-    let pointers = validated.pointers;
+    };
     let count = entries.count;
     let mut parts = entries.parts;
     parts[count] = Part {

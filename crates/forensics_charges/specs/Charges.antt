@@ -12,7 +12,8 @@ use Rattle.forensics_charges.specs.declared.Tenure.{Tenure}
 use Rattle.forensics_charges.specs.Rules.{two_requests, reached, two_logs, forgotten}
 use Rattle.forensics_charges.specs.declared.Receipt.{Receipt}
 use Rattle.forensics_charges.specs.declared.Rule.{Rule}
-use Rattle.forensics_charges.specs.declared.Rule.TheVariants.{TwoVotes, TwoStamps, StaleVote, StaleVoteExchanged, OneLeaf}
+use Rattle.forensics_charges.specs.declared.Rule.TheVariants.{TwoVotes, TwoStamps, StaleVote}
+use Rattle.forensics_charges.specs.declared.Rule.TheVariants.{StaleVoteExchanged, OneLeaf}
 use Rattle.forensics_charges.specs.declared.Charge as declared
 use Rattle.forensics_charges.specs.declared.Findings.{Findings}
 

@@ -22,7 +22,13 @@ pub fn hirelog_sha256(message: &[u8], digest: &mut [u8; 32]) -> u32
     ensures number { result ≡ digest_number message.now }
     ensures bytes { digest.new ≡ digest_after message.now digest.old }
 {
-    sha256_service::digest(message, digest)
+    match sha256_service::digest(message) {
+        Ok(bytes) => {
+            *digest = bytes;
+            0
+        }
+        Err(refusal) => refusal.number(),
+    }
 }
 
 // The LMS signature check (document 01, "Digest and signature"; RFC 8554): 0 for good, 15 for bad, and 16,

@@ -40,7 +40,7 @@ pub fn later(j: Lanes<u32>, m: u32) -> Lanes<u32>
     requires { (l : Lane) → lane l j + m < 2 ^ 32 }
     ensures { (l : Lane) → lane l result ≡ lane l j + m }
 {
-    Lanes(j.0 + m, j.1 + m, j.2 + m, j.3 + m)
+    j.map(|j| j + m)
 }
 
 // n steps of each of four chains, side by side: from step j of chain i on in each lane.

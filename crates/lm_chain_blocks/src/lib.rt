@@ -77,29 +77,13 @@ fn firsts(i: Lanes<u32>, j: Lanes<u32>, a: Lanes<u32>) -> Lanes<u32>
     requires { (l : Lane) → (lane l i < 65536) × (lane l j < 256) }
     ensures { (l : Lane) → lane l result ≡ first_word (lane l i) (lane l j) (lane l a) }
 {
-    Lanes(
-        first(i.0, j.0, a.0),
-        first(i.1, j.1, a.1),
-        first(i.2, j.2, a.2),
-        first(i.3, j.3, a.3),
-    )
+    i.zip(j).zip(a).map(|((i, j), a)| first(i, j, a))
 }
 
 fn joined_lanes(x: Lanes<u32>, y: Lanes<u32>) -> Lanes<u32>
     ensures { (l : Lane) → lane l result ≡ across_word (lane l x) (lane l y) }
 {
-    Lanes(
-        joined(x.0, y.0),
-        joined(x.1, y.1),
-        joined(x.2, y.2),
-        joined(x.3, y.3),
-    )
-}
-
-fn lasts(h: Lanes<u32>) -> Lanes<u32>
-    ensures { (l : Lane) → lane l result ≡ last_word (lane l h) }
-{
-    Lanes(last(h.0), last(h.1), last(h.2), last(h.3))
+    x.zip(y).map(|(x, y)| joined(x, y))
 }
 
 // ---- four blocks
@@ -144,7 +128,7 @@ fn put_last(f: Lanes<u32>, g: Lanes<u32>, h: Lanes<u32>, w: &mut [u32])
 {
     sha256_lane_words::put(w, 11, joined_lanes(f, g));
     sha256_lane_words::put(w, 12, joined_lanes(g, h));
-    sha256_lane_words::put(w, 13, lasts(h));
+    sha256_lane_words::put(w, 13, h.map(last));
 }
 
 // Makes the blocks of some step of each lane's chain i those of step j, on the value t: words 5 to 13 of `w`.

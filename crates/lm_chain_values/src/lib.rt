@@ -54,12 +54,7 @@ pub fn four_at(v: &[u32], i: Lanes<usize>) -> Lanes<State>
     requires { (l : Lane) → 8 * lane l i + 8 ≤ length v.now }
     ensures { (l : Lane) → bytes_of (lane l result) ≡ value_at v.now (lane l i) }
 {
-    Lanes(
-        value_at(v, i.0),
-        value_at(v, i.1),
-        value_at(v, i.2),
-        value_at(v, i.3),
-    )
+    i.map(|k| value_at(v, k))
 }
 
 // Makes values those of four chains.

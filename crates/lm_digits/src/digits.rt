@@ -5,7 +5,7 @@ ghost use Rattle.words.specs.BigEndian.{be};
 ghost use Rattle.lm_digits.specs.Digits.{coef, sum, with_checksum, steps};
 ghost use Rattle.lm_digits.specs.Listed.{Listed, chains_most};
 
-use super::{CHAINS_MOST, Parameters};
+use super::{CHAINS_MOST, Parameters, WithSteps};
 
 // The bytes of Q (RFC 8554, 4.1: n), and of Q || Cksm(Q) (4.4).
 const HASH_SIZE: usize = 32;
@@ -22,7 +22,7 @@ pub fn digit(s: &[u8], bits: u32, i: usize) -> u32
     let at = i / each;
     let before = bits * ((i % each) as u32);
     let after = 8 - (before + bits);
-    (words::wide(s[at]) >> after) % (1 << bits)
+    (u32::from(s[at]) >> after) % (1 << bits)
 }
 
 // How many digits Q has (RFC 8554, appendix B: u).
@@ -58,25 +58,18 @@ fn join_checksum(q: [u8; HASH_SIZE], checksum: u32) -> [u8; CHECKED_SIZE]
     s
 }
 
-// Q || Cksm(Q), and the steps of all chains for it (document 02, W7).
-#[derive(Clone, Copy)]
-pub struct Checked {
-    pub bytes: [u8; CHECKED_SIZE],
-    pub steps: u32,
-}
-
-// Q || Cksm(Q) (RFC 8554, 4.6, algorithm 4b, step 3), with the steps: the sum over the digits of Q is the
-// checksum before its shift, and the steps are that sum over all digits.
-pub fn with_checksum(q: [u8; HASH_SIZE], o: Parameters) -> Checked
+// Q || Cksm(Q) (RFC 8554, 4.6, algorithm 4b, step 3), with the steps of all chains for it (document 02, W7):
+// the sum over the digits of Q is the checksum before its shift, and the steps are that sum over all digits.
+pub fn with_checksum(q: [u8; HASH_SIZE], o: Parameters) -> WithSteps<[u8; CHECKED_SIZE]>
     requires { Listed o }
-    ensures bytes { result.bytes ≡ with_checksum o q }
+    ensures bytes { result.value ≡ with_checksum o q }
     ensures steps { result.steps ≡ steps o q }
 {
     let count = message_digits(o.bits);
     let total = digit_sum(&q, o.bits, 0, count, 0);
     let bytes = join_checksum(q, total << o.shift);
-    Checked {
-        bytes,
+    WithSteps {
+        value: bytes,
         steps: digit_sum(&bytes, o.bits, count, o.chains, total),
     }
 }

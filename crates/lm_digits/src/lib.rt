@@ -13,12 +13,20 @@ pub const CHAINS_MOST: usize = 265;
 // The chains of type 4, a digit a byte.
 pub const BYTE_CHAINS: usize = 34;
 
-// The parameters of a one-time type: digit bits w, chains p, checksum shift ls (RFC 8554, table 1).
+// The parameters of a one-time type: digit bits w, chains p, checksum shift ls (RFC 8554, table 1). Contracts
+// ask that they are listed (`Listed`); no ghost field does, as `Follows` is claimed of rows of any width.
 #[derive(Clone, Copy)]
 pub struct Parameters {
     pub bits: u32,
     pub chains: usize,
     pub shift: u32,
+}
+
+// A value, and the chain steps that lead to it (document 02, W7).
+#[derive(Clone, Copy)]
+pub struct WithSteps<T> {
+    pub value: T,
+    pub steps: u32,
 }
 
 // The parameters of a type number, if it is listed.

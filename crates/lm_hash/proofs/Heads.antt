@@ -2,44 +2,59 @@
 -- Assumes nothing.
 use mathlib.Core.Path.{◌≡◌, refl, sym, ap, ◌∙◌}
 use mathlib.Core.List.{List, [], ◌∷◌, ◌++◌, append_assoc}
-use Prim.Native.Nat.{ℕ, zero, suc, ◌+◌, ◌-◌, ◌*◌, ◌/◌, ◌≤◌, ◌<◌}
-use native.Mathlib.Numerals.{add-one}
+use Prim.Native.Nat.{ℕ, zero, suc, ◌+◌, ◌-◌, ◌*◌, ◌/◌, ◌≤◌, ◌<◌, min}
 use native.Mathlib.Omega.{arith}
-use lib.ListN.{length, get_or, take, drop, set, replicate, length-append, length-replicate, length-drop, take-append-drop, get_or-eq_default}
-use lib.Seq.{get_or-append-add, take-suc, take-suc-set, take-append-le, take-take, take_all, drop-append-add, length-take-le}
+use lib.ListN.{length, take, drop, replicate, length-append, length-drop, take-append-drop}
+use lib.Seq.{take_at, drop_at, take-append-le, take-take, take_all, drop-append-add, length-take-le}
+use borrow.Rule.Slice.PartMut.{put_mid}
+use Rattle.std.proofs.lemmas.List.{take_min, take-replicate, drop-replicate}
 use Rattle.sha256.specs.Sha256.{initial, padding, parse, compress, hash, bytes_of, sha256}
 use Rattle.sha256.proofs.Blocks.{sha256_head}
 
--- ---- a byte of the two
-
-pub get_or-second : (xs ys : List ℕ) (i : ℕ) → length xs ≤ i → get_or (xs ++ ys) i 0 ≡ get_or ys (i - length xs) 0
-get_or-second xs ys i h =
-    let place : i ≡ length xs + (i - length xs) = omega arith in
-    ap (λ (n : ℕ). get_or (xs ++ ys) n 0) place ∙ get_or-append-add xs ys (i - length xs) 0
-
-pub get_d_past : (xs ys : List ℕ) (i : ℕ) → length xs + length ys ≤ i → get_or (xs ++ ys) i 0 ≡ 0
-get_d_past xs ys i h = get_or-eq_default (xs ++ ys) 0 (rw length-append h)
-
--- ---- zeros after a list
-
-get_or-replicate-zero : (n i : ℕ) → ◌≡◌ {A = ℕ} (get_or (replicate n 0) i 0) 0
-get_or-replicate-zero zero i = refl
-get_or-replicate-zero (suc n) zero = refl
-get_or-replicate-zero (suc n) (suc i) = get_or-replicate-zero n i
-
-get_or-zeros : (xs : List ℕ) (n i : ℕ) → get_or (xs ++ replicate n 0) i 0 ≡ get_or xs i 0
-get_or-zeros [] n i = get_or-replicate-zero n i
-get_or-zeros (x ∷ xs) n zero = refl
-get_or-zeros (x ∷ xs) n (suc i) = get_or-zeros xs n i
-
--- one byte more of a block
-pub block_step : (l block : List ℕ) (i x : ℕ) → i < length block → i < 64 → x ≡ get_or l i 0 → take i block ≡ take i (l ++ replicate 64 0)
-    → take (i + 1) (set block i x) ≡ take (i + 1) (l ++ replicate 64 0)
-block_step l block i x room short e t =
-    let inside : i < length (l ++ replicate 64 0) = simp (length-append, length-replicate) (omega arith) in
-    rw (add-one, take-suc-set block i x room, take-suc (l ++ replicate 64 0) i 0 inside, t, e, get_or-zeros l 64 i)
-
 -- ---- the first block
+
+-- of the two, so much of the first and then of the second
+take_both : (k : ℕ) (xs ys : List ℕ) → take k (xs ++ ys) ≡ take k xs ++ take (k - length xs) ys
+take_both zero [] ys = refl
+take_both zero (x ∷ xs) ys = let none : 0 - suc (length xs) ≡ 0 = omega arith in rw none
+take_both (suc k) [] ys = let all : suc k - 0 ≡ suc k = omega arith in rw all
+take_both (suc k) (x ∷ xs) ys = let less : suc k - suc (length xs) ≡ k - length xs = omega arith in rw less (ap (λ l. x ∷ l) (take_both k xs ys))
+
+take_least : (k n : ℕ) (xs : List ℕ) → n ≡ min (length xs) k → take n xs ≡ take k xs
+take_least k n xs h = let turned : n ≡ min k (length xs) = omega arith in rw turned (take_min k xs)
+
+-- what is copied to a block, and zeros after it
+pub filled : (xs ys : List ℕ) (n m : ℕ) → n ≡ min (length xs) 64 → m ≡ min (length ys) (64 - n)
+    → take n xs ++ (take m ys ++ replicate (64 - n - m) 0) ≡ take 64 ((xs ++ ys) ++ replicate 64 0)
+filled xs ys n m h k =
+    let room : 64 - n ≡ 64 - length xs = omega arith in
+    let zeros : 64 - length (xs ++ ys) ≡ 64 - n - m = rw length-append (omega arith) in
+    rw (
+      take_both 64 (xs ++ ys) (replicate 64 0),
+      take_both 64 xs ys,
+      zeros,
+      take-replicate {X = ℕ} (64 - n - m) 64 0 (omega arith),
+      take_least 64 n xs h,
+      take_least (64 - n) m ys k,
+      room,
+      append_assoc,
+    )
+
+pub placed : (xs ys a b : List ℕ) (n m : ℕ) → a ≡ take n xs → b ≡ take m ys → n ≡ min (length xs) 64 → m ≡ min (length ys) (64 - n)
+    → put_mid n (n + m - n) (a ++ drop n (replicate 64 0)) b ≡ take 64 ((xs ++ ys) ++ replicate 64 0)
+placed xs ys a b n m ea eb h k =
+    let long : length a ≡ n = rw ea (length-take-le n xs (omega arith)) in
+    let size : n + m - n ≡ m = omega arith in
+    rw (
+      size,
+      take_at a (drop n (replicate 64 0)) n long,
+      drop_at a (drop n (replicate 64 0)) n long,
+      drop-replicate {X = ℕ} n 64 0,
+      drop-replicate {X = ℕ} m (64 - n) 0,
+      ea,
+      eb,
+    )
+    (filled xs ys n m h k)
 
 -- a list that ends in it
 pub all_of : (l : List ℕ) → length l < 64 → take (length l) (take 64 (l ++ replicate 64 0)) ≡ l

@@ -1,32 +1,19 @@
 // The hash value of a short head and a message after it, with no copy of the message.
-ghost use Rattle.std.specs.Prelude.{◌≡◌, ◌++◌, ◌≤◌, ◌<◌, length, take, get_or, replicate};
+ghost use Rattle.std.specs.Prelude.{◌≡◌, ◌++◌, ◌≤◌, ◌<◌, length, take, replicate};
 ghost use Rattle.sha256.specs.Service.{limit};
 ghost use Rattle.sha256.specs.Sha256 as fips;
 
 use sha256::State;
-
-// The byte at a place of the two slices, one after the other; 0 past their end.
-fn byte_at(head: &[u8], message: &[u8], i: usize) -> u8
-    ensures { result ≡ get_or (head.now ++ message.now) i 0 }
-{
-    if i < head.len() {
-        return head[i];
-    }
-    let j = i - head.len();
-    if j < message.len() {
-        return message[j];
-    }
-    0
-}
 
 // The first 64 bytes of the two slices, one after the other, with zeros where they end before.
 pub fn first_block(head: &[u8], message: &[u8]) -> [u8; 64]
     ensures { result ≡ take 64 ((head.now ++ message.now) ++ replicate 64 0) }
 {
     let mut block = [0u8; 64];
-    for i in 0..64 {
-        block[i] = byte_at(head, message, i);
-    }
+    let start = head.len().min(64);
+    let more = message.len().min(64 - start);
+    block[..start].copy_from_slice(&head[..start]);
+    block[start..start + more].copy_from_slice(&message[..more]);
     block
 }
 

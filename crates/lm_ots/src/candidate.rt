@@ -8,7 +8,7 @@ ghost use Rattle.lm_digits.specs.Digits.{steps};
 ghost use Rattle.lm_ots.specs.Candidate as rfc;
 
 use super::walk;
-use lm_digits::{CHAINS_MOST, Parameters, digits};
+use lm_digits::{CHAINS_MOST, Parameters, WithSteps, digits};
 use lm_hash::Leaf;
 use sha256::State;
 
@@ -34,18 +34,12 @@ fn put_ends(leaf: Leaf, o: Parameters, s: &[u8], y: &[u8], out: &mut [u8])
     }
 }
 
-// Kc, and the steps of all chains that lead to it (document 02, W7).
-#[derive(Clone, Copy)]
-pub struct KeyCandidate {
-    pub key: State,
-    pub steps: u32,
-}
-
-// Kc, from C and y[0] to y[p-1] one after the other, with the steps, which are counted from the digits.
-pub fn candidate(leaf: Leaf, o: Parameters, message: &[u8], signature: &[u8]) -> KeyCandidate
+// Kc, from C and y[0] to y[p-1] one after the other, with the steps of all chains that lead to it (document
+// 02, W7), which are counted from the digits.
+pub fn candidate(leaf: Leaf, o: Parameters, message: &[u8], signature: &[u8]) -> WithSteps<State>
     requires { Listed o × (length message.now ≤ limit)
         × (length signature.now ≡ 32 * (o.chains + 1)) }
-    ensures key { bytes_of result.key
+    ensures key { bytes_of result.value
         ≡ rfc.candidate o (identifier leaf) leaf.q (take 32 signature.now)
         (drop 32 signature.now) message.now }
     ensures steps { result.steps
@@ -54,12 +48,12 @@ pub fn candidate(leaf: Leaf, o: Parameters, message: &[u8], signature: &[u8]) ->
 {
     let q = lm_hash::tagged_message(leaf, leaf.q, D_MESG, &signature[..32], message);
     let checked = digits::with_checksum(q.bytes(), o);
-    let s = checked.bytes;
+    let s = checked.value;
     let mut ends = [0u8; ENDS_MOST];
     put_ends(leaf, o, &s, &signature[32..], &mut ends);
     let n = 32 * o.chains;
-    KeyCandidate {
-        key: lm_hash::tagged(leaf, leaf.q, D_PBLC, &ends[..n]),
+    WithSteps {
+        value: lm_hash::tagged(leaf, leaf.q, D_PBLC, &ends[..n]),
         steps: checked.steps,
     }
 }

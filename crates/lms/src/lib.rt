@@ -12,22 +12,16 @@ ghost use Rattle.lm_format.specs.Format.{key_size, signature_length};
 ghost use Rattle.lms.specs.Check as rfc;
 
 use lm_answer::Answer;
-use lm_digits::Parameters;
+use lm_digits::{Parameters, WithSteps};
 use lm_format::{IDENTIFIER_AT, ONE_TIME_AT, ROOT_AT, TYPE_SIZE};
 use sha256::State;
 
-// Tc (RFC 8554, 5.4.2, algorithm 6a), and the chain steps that lead to it (document 02, W7).
-#[derive(Clone, Copy)]
-struct RootCandidate {
-    root: State,
-    steps: u32,
-}
-
-// The root that a signature of the right length and leaf number leads to (RFC 8554, 5.4.2, algorithm 6a).
-fn root_of(o: Parameters, h: u32, key: &[u8], message: &[u8], signature: &[u8]) -> RootCandidate
+// Tc, the root that a signature of the right length and leaf number leads to (RFC 8554, 5.4.2, algorithm 6a),
+// with the chain steps (document 02, W7).
+fn root_of(o: Parameters, h: u32, key: &[u8], message: &[u8], signature: &[u8]) -> WithSteps<State>
     requires { Listed o × (h ≤ height_most) × (length key.now ≡ key_size) × (length message.now ≤ limit)
         × (length signature.now ≡ signature_length o h) × (number_at 4 signature.now 0 < 2 ^ h) }
-    ensures root { bytes_of result.root
+    ensures root { bytes_of result.value
         ≡ rfc.root_of o h key.now message.now signature.now }
     ensures steps { result.steps
         ≡ steps o (rfc.hash_of key.now message.now signature.now) }
@@ -36,8 +30,8 @@ fn root_of(o: Parameters, h: u32, key: &[u8], message: &[u8], signature: &[u8]) 
     let end = ONE_TIME_AT + lm_format::one_time_size(o);
     let path = end + TYPE_SIZE;
     let candidate = lm_ots::candidate::candidate(leaf, o, message, &signature[ONE_TIME_AT..end]);
-    RootCandidate {
-        root: lm_tree::root(leaf, h, candidate.key, &signature[path..]),
+    WithSteps {
+        value: lm_tree::root(leaf, h, candidate.value, &signature[path..]),
         steps: candidate.steps,
     }
 }
@@ -65,7 +59,7 @@ fn verify(o: Parameters, h: u32, key: &[u8], message: &[u8], signature: &[u8]) -
     }
     let candidate = root_of(o, h, key, message, signature);
     let steps = candidate.steps;
-    if !matches(candidate.root, key) {
+    if !matches(candidate.value, key) {
         return Answer::Bad(steps);
     }
     Answer::Good(words::u32_at(signature, 0), steps)

@@ -1,17 +1,37 @@
 -- A term looked for in the records after this one, and the distinct terms there counted, one record at a time.
 -- Assumes nothing.
-use mathlib.Core.Path.{◌≡◌, sym, ◌∙◌}
-use mathlib.Core.Bool.{Bool, true, false, not}
+use mathlib.Core.Path.{◌≡◌, refl, sym}
+use mathlib.Core.Bool.{Bool, true, false, not, cond, ◌||◌}
 use mathlib.Core.List.{List}
-use Prim.Native.Nat.{ℕ, suc, ◌+◌, ◌≤◌, ◌<◌}
+use Prim.Native.Nat.{ℕ, zero, suc, ◌+◌, ◌*◌, ◌≤◌, ◌<◌}
 use native.Mathlib.Numerals.{add-one}
-use borrow.Author.Tests.{eq-eqb, ne_eqb}
+use lib.Dec.{eqb}
+use lib.ListN.{drop}
+use lib.Seq.{drop-drop}
+use Rattle.std.specs.List.{list_any, range_with_len}
 use Rattle.refusal.proofs.Laws.{met, unmet}
 use Rattle.log_chain.specs.Log.{last_term}
-use Rattle.log_chain.specs.Records.{records_of}
+use Rattle.log_chain.specs.Records.{record_size, records_of}
 use Rattle.log_terms.specs.Later.{records_after}
-use Rattle.log_terms.proofs.Records.{record_at, records-last, after_first, after_last}
+use Rattle.log_terms.proofs.Records.{record_at, record_next, records-last, after_first, after_last}
 use Rattle.log_distinct.specs.Distinct.{occurs, distinct}
+
+-- ---- whether a term occurs among n records, from the one after record i on
+
+either : (a b c : Bool) → b ≡ c → (a || b) ≡ cond a true c
+either true b c e = refl
+either false b c e = e
+
+pub any_later : (w t : ℕ) (s : List ℕ) (n i : ℕ)
+    → list_any (λ k. eqb (last_term (records_of w (k + 1) s)) t) (range_with_len i n) ≡ occurs t (records_of w n (drop (record_size w * i) s))
+unfolding occurs records_of record_at
+any_later w t s zero i = refl
+any_later w t s (suc n) i =
+    let term : last_term (records_of w (i + 1) s) ≡ (record_at w s i).term = rw add-one (records-last w i s) in
+    let place : record_size w * i + record_size w ≡ record_size w * (i + 1) = rw add-one (sym (record_next w i)) in
+    rw (term, drop-drop, place) (either _ _ _ (any_later w t s n (i + 1)))
+
+-- ---- how many are distinct
 
 module _ (w count i : ℕ) (s : List ℕ) where
   -- none is left
@@ -19,26 +39,12 @@ module _ (w count i : ℕ) (s : List ℕ) where
   unfolding distinct
   distinct_none h = rw (after_last w count i s h)
 
-  pub occurs-nowhere : (t : ℕ) → count ≤ i → occurs t (records_after w count i s) ≡ false
-  unfolding occurs
-  occurs-nowhere t h = rw (after_last w count i s h)
-
   -- the term of the record here
   module _ {u : ℕ} (term : u ≡ last_term (records_of w (i + 1) s)) (h : i < count) where
     here : (record_at w s i).term ≡ u
     here = sym (rw (add-one, records-last w i s) at term)
 
-    -- ---- whether a term occurs: the record here has it, or else a later one has to
-
-    pub occurs-here : (t : ℕ) → u ≡ t → occurs t (records_after w count i s) ≡ true
-    unfolding occurs
-    occurs-here t e = rw (after_first w count i s h, eq-eqb (record_at w s i).term t (here ∙ e))
-
-    pub occurs-later : (t : ℕ) → (u ≡ t → ⊥) → occurs t (records_after w count i s) ≡ occurs t (records_after w count (i + 1) s)
-    unfolding occurs
-    occurs-later t e = rw (add-one, after_first w count i s h, ne_eqb (record_at w s i).term t (λ z. e (sym here ∙ z)))
-
-    -- ---- how many are distinct: the term of the record here counts where it does not occur later
+    -- the term of the record here counts where it does not occur later
 
     module _ {r : Bool} (later : r ≡ occurs u (records_after w count (i + 1) s)) where
       pub distinct-again : not r ≡ false → distinct (records_after w count i s) ≡ distinct (records_after w count (i + 1) s)

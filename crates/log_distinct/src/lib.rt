@@ -12,12 +12,7 @@ fn occurs_after(s: &[u8], width: usize, records: usize, i: usize, term: u64) -> 
     requires { (width ≤ width_most) × (i ≤ records) × (record_size width * records ≤ length s.now) }
     ensures { result ≡ occurs term (records_after width records i s.now) }
 {
-    for k in i..records {
-        if log_terms::last_term(s, width, k + 1) == term {
-            return true;
-        }
-    }
-    false
+    (i..records).any(|k| log_terms::last_term(s, width, k + 1) == term)
 }
 
 // Whether a log has at most so many distinct terms. A term is counted where it occurs last.

@@ -17,8 +17,8 @@ pub fn named_mask(rows: [Option<Charge>; forensics::ROW_COUNT]) -> u16
     ensures { result ≡ mask_of (map charge_of rows) }
 {
     let mut mask: u16 = 0;
-    for i in (0..forensics::ROW_COUNT).rev() {
-        mask = mask * 2 + bit_of(rows[i]);
+    for row in rows.iter().rev() {
+        mask = mask * 2 + bit_of(*row);
     }
     mask
 }

@@ -1,5 +1,5 @@
-// Values of four lanes side by side, and the functions of FIPS 180-4, 4.1.2, on words in them, in a shape from which
-// the compiler forms vector instructions.
+// Values of four lanes side by side, and the functions of FIPS 180-4, 4.1.2, on words in them, in a shape
+// from which the compiler forms vector instructions.
 #![tactic(auto)]
 
 ghost use Rattle.std.specs.Prelude.{◌≡◌, ℕ, ◌+◌, ◌*◌, ◌≤◌, length};

@@ -128,7 +128,7 @@ fn rounds(u: State, k: &[u32], w: &mut [u32]) -> Lanes<State>
 fn sums(s: State, r: Lanes<State>) -> Lanes<State>
     ensures { (l : Lane) → lane l result ≡ fips.plus (lane l r) s }
 {
-    Lanes(r.0.plus(s), r.1.plus(s), r.2.plus(s), r.3.plus(s))
+    r.map(|r| r.plus(s))
 }
 
 // The hash value of each lane after its block, from the same hash value (FIPS 180-4, 6.2.2). The blocks are

@@ -1,26 +1,28 @@
 // The digest service (document 01, "Digest and signature").
 #![tactic(auto)]
 
-ghost use Rattle.std.specs.Prelude.{◌≡◌};
-ghost use Rattle.sha256.specs.Service.{digest_number, digest_after};
+ghost use Rattle.std.specs.Prelude.{◌≡◌, IfOk, is_err};
+ghost use Rattle.refusal.specs.Refusals.{number_of};
+ghost use Rattle.sha256.specs.Service.{digest_number, too_long};
+ghost use Rattle.sha256.specs.Sha256.{sha256};
 
+use refusal::Refusal;
 use sha256::State;
 
 // The most bytes that a message may have (document 01, "Digest and signature").
 pub const MESSAGE_MAX: usize = 16777216;
 
-// The service: 0 and the digest, or 16 for a message of
-// more than 16,777,216 bytes, with the buffer as it was.
-pub fn digest(message: &[u8], out: &mut [u8; 32]) -> u32
-    ensures number { result ≡ digest_number message.now }
-    ensures bytes { out.new ≡ digest_after message.now out.old }
+// The service: the digest, or that the message has more than 16,777,216 bytes.
+pub fn digest(message: &[u8]) -> Result<[u8; 32], Refusal>
+    ensures number { number_of result ≡ digest_number message.now }
+    ensures refused { is_err result ≡ too_long message.now }
+    ensures digest { IfOk result (λ bytes. bytes ≡ sha256 message.now) }
 {
     if MESSAGE_MAX < message.len() {
-        return 16;
+        return Err(Refusal::LongMessage);
     }
     let whole = message.len() / 64 * 64;
     let s = State::new().absorb_all(message);
     let end = s.finish(&message[whole..], message.len());
-    *out = end.bytes();
-    0
+    Ok(end.bytes())
 }

@@ -1,13 +1,14 @@
 -- The entries of a buffer: one more is put after the others, and a padded message is told from every other one.
 -- Assumes nothing.
 use mathlib.Core.Path.{◌≡◌, refl, sym, ap, ◌∙◌}
-use mathlib.Core.Bool.{Bool, true, false, not, cond}
+use mathlib.Core.Bool.{Bool, true, false, not, cond, ◌||◌}
 use mathlib.Core.List.{List, [], ◌∷◌, ◌++◌, append_assoc}
 use Prim.Native.Nat.{ℕ, zero, suc, ◌+◌, ◌-◌, ◌*◌, ◌≤◌, ◌<◌}
 use native.Mathlib.Nat.{mul-suc, add_comm}
 use native.Mathlib.Numerals.{add-one}
 use native.Mathlib.Omega.{arith}
 use lib.ListN.{length, take, drop, get_or, replicate, length-append, length-drop, length-replicate, replicate-append-replicate}
+use Rattle.std.specs.List.{list_any, range_with_len}
 use lib.Dec.{eqb, lit≤}
 use lib.Pointwise.{pointwise}
 use lib.Seq.{take_at, drop_at, drop-drop, take-take, take-add, sets, length-take-le}
@@ -150,24 +151,16 @@ left_first b n j h =
     let place : entry_size * j + entry_size ≡ entry_size * (j + 1) = omega arith in
     rw count (ap (λ z. entry_use (take entry_size (drop (entry_size * j) b)) ∷ entry_uses (n - (j + 1)) z) (drop-drop entry_size (entry_size * j) b ∙ ap (λ (k : ℕ). drop k b) place))
 
-module _ (b : List ℕ) (n : ℕ) (x : Use) where
-  pub record ReusedLeft (j : ℕ) : Type 0 where
-    pub answer : reused_in x (entry_uses (n - j) (drop (entry_size * j) b)) ≡ reused_in x (entry_uses n b)
+-- ---- another entry with the same leaf, looked for from one entry on
 
-  pub all_left : ReusedLeft 0
-  all_left = let whole : n - 0 ≡ n = omega arith in record { answer = ap (λ (k : ℕ). reused_in x (entry_uses k b)) whole }
+either : (a b c : Bool) → b ≡ c → (a || b) ≡ cond a true c
+either true b c e = refl
+either false b c e = e
 
-  module _ (j : ℕ) (left : ReusedLeft j) (more : j < n) {r : Bool} (asked : r ≡ reused x (entry_use_at j b)) where
-    step : cond r true (reused_in x (entry_uses (n - (j + 1)) (drop (entry_size * (j + 1)) b))) ≡ reused_in x (entry_uses n b)
-    unfolding reused_in
-    step = rw asked (rw (left_first b n j more) at left.answer)
-
-    pub found : r ≡ true → true ≡ reused_in x (entry_uses n b)
-    found e = rw e at step
-
-    pub not_found : r ≡ false → ReusedLeft (j + 1)
-    not_found e = record { answer = rw e at step }
-
-  pub none_left : (j : ℕ) → ReusedLeft j → n ≤ j → false ≡ reused_in x (entry_uses n b)
-  unfolding reused_in entry_uses
-  none_left j left h = let none : n - j ≡ 0 = omega arith in rw none at left.answer
+pub any_entry : (b : List ℕ) (x : Use) (n j : ℕ)
+    → list_any (λ k. reused x (entry_use_at k b)) (range_with_len j n) ≡ reused_in x (entry_uses n (drop (entry_size * j) b))
+unfolding entry_uses entry_use_at reused_in
+any_entry b x zero j = refl
+any_entry b x (suc n) j =
+    let place : entry_size * j + entry_size ≡ entry_size * (j + 1) = omega arith in
+    rw (drop-drop, place) (either _ _ _ (any_entry b x n (j + 1)))

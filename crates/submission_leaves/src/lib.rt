@@ -47,10 +47,5 @@ pub fn leaf_reused(buffer: &[u8], n: usize, i: usize) -> bool
     ensures { result ≡ reused_in (entry_use_at i buffer.now) (entry_uses n buffer.now) }
 {
     let one = ENTRY_SIZE * i;
-    for j in 0..n {
-        if entries_reused(buffer, one, ENTRY_SIZE * j) {
-            return true;
-        }
-    }
-    false
+    (0..n).any(|j| entries_reused(buffer, one, ENTRY_SIZE * j))
 }

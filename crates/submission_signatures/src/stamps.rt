@@ -28,8 +28,8 @@ pub struct StampPart {
     pub pointer: State,
 }
 
-// The stamp of a term that another follows, whose leader certificate stands at a next place: it is on the last
-// record before that term, which that certificate names.
+// The stamp of a term that another follows, whose leader certificate stands at a next place: it is on the
+// last record before that term, which that certificate names.
 pub fn stamp_before(
     s: &[u8],
     width: usize,

@@ -16,11 +16,9 @@ fn print_line(rt: &impl Print, digest: &[u8; 32]) -> io::Result<()> {
 fn print_digest(rt: &impl Print, digits: &[u8]) -> io::Result<()> {
     let mut message = [0u8; 4096];
     let n = test_vectors::decode(digits, &mut message);
-    let mut digest = [0u8; 32];
-    if sha256_service::digest(&message[..n], &mut digest) == 0 {
-        print_line(rt, &digest)
-    } else {
-        rt.write_all(b"no digest\n")
+    match sha256_service::digest(&message[..n]) {
+        Ok(digest) => print_line(rt, &digest),
+        Err(_) => rt.write_all(b"no digest\n"),
     }
 }
 

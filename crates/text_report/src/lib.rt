@@ -26,7 +26,7 @@ fn put_named(out: &mut [u8], at: usize, report: &[u8], k: usize) -> usize
         return at;
     }
     let row = ROWS_AT + ROW_SIZE * (k - 1);
-    let rule = words::wide(report[row]);
+    let rule = u32::from(report[row]);
     let term = words::u32_at(report, row + ROW_TERM_AT);
     text_line::put_replica(out, at, k as u32, rule, term)
 }
@@ -52,8 +52,8 @@ fn put_lines(out: &mut [u8], report: &[u8]) -> usize
     let first = text_line::put_refusal(
         out,
         0,
-        words::wide(report[0]),
-        words::wide(report[PLACE_AT]),
+        u32::from(report[0]),
+        u32::from(report[PLACE_AT]),
     );
     let second = text_line::put_fork(out, first, words::u32_at(report, FORK_AT));
     put_replicas(out, second, report)

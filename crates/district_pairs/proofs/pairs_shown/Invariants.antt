@@ -1,6 +1,5 @@
 -- From the last accepted submission down: what the pairs of those from `i` on show.
 use mathlib.Core.Path.{◌≡◌}
-use Prim.Native.Nat.{◌≤◌}
 use lib.ListN.{drop}
 use Rattle.district.specs.District.{pairs, shown}
 use Rattle.district_pairs.specs.Entries.{entries_of}

@@ -1,9 +1,7 @@
 -- From the last submission down to the one after i: what the pairs with those from `j` on show, before the pairs of the later ones.
 use mathlib.Core.Path.{◌≡◌, ap, ◌∙◌}
 use Prim.Native.Nat.{suc, ◌-◌, ◌≤◌, ◌<◌}
-use native.Mathlib.Nat.{le_refl}
 use native.Mathlib.Omega.{arith}
-use borrow.Author.Rules.{rules}
 use lib.ListN.{length}
 use Rattle.district.specs.District.{entry}
 use Rattle.district_pairs.specs.Entries.{entry_of}
@@ -11,13 +9,6 @@ use Rattle.district_pairs.proofs.Walk.{part_at, with_one, with_none, with-turn, 
 use Rattle.district_pairs.proofs.pairs_with.Goals as goal
 
 -- the place i is one of nine
-pub offset_bounds-parts-i : goal.offset_bounds-parts-i
-offset_bounds-parts-i c =
-    let low : c.args.i < 9 = omega (arith, c.requires.1, c.requires.0.room.taken) in search rules
-
-pub bounds-parts-i : goal.bounds-parts-i
-bounds-parts-i c = omega (arith, c.requires.1, c.requires.0.room.taken)
-
 pub loop-j-init : goal.loop-j-init
 loop-j-init c =
     let a = c.args in
@@ -25,19 +16,7 @@ loop-j-init c =
     let whole : a.entries.count ≤ length a.entries.parts = omega (arith, held.room.places, held.room.taken) in
     (c.requires.1, c.requires.2 ∙ with_none a.roster.now a.buffer.now a.entries whole _ a.i)
 
-pub overflow_add-j-start : goal.overflow_add-j-start
-overflow_add-j-start c =
-    let low : c.args.i < 9 = omega (arith, c.requires.1, c.requires.0.room.taken) in search rules
-
 -- and so is j, when it has been lowered
-pub offset_bounds-parts-j : goal.offset_bounds-parts-j
-offset_bounds-parts-j c =
-    let low : c.loop-j.j - 1 < 9 = omega (arith, c.loop-j.invariant.0, c.loop-j.auto.j, c.requires.0.room.taken) in search rules
-
-pub bounds-parts-j : goal.bounds-parts-j
-bounds-parts-j c =
-    omega (arith, c.loop-j.invariant.0, c.loop-j.auto.j, c.requires.0.room.taken)
-
 pub audit_parts-found-requires : goal.audit_parts-found-requires
 audit_parts-found-requires c =
     let l = c.loop-j in
@@ -46,9 +25,6 @@ audit_parts-found-requires c =
     let whole : e.count ≤ length e.parts = omega (arith, held.room.places, held.room.taken) in
     let below : l.j - 1 < e.count = omega (arith, l.invariant.0, l.auto.j) in
     (held.fine, held.fit _ (part_at e whole c.args.i _ c.requires.1), held.fit _ (part_at e whole (l.j - 1) _ below))
-
-pub with_pair-shown-requires : goal.with_pair-shown-requires
-with_pair-shown-requires c = c.audit_parts-found.ensures.fork
 
 pub loop-j-preserved : goal.loop-j-preserved
 unfolding entry_of entry

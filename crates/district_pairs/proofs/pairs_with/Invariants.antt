@@ -1,6 +1,6 @@
 -- From the last submission down to the one after i: what the pairs with those from `j` on show, before the pairs of the later ones.
 use mathlib.Core.Path.{◌≡◌}
-use Prim.Native.Nat.{◌≤◌, ◌<◌}
+use Prim.Native.Nat.{◌<◌}
 use Rattle.district_pairs.specs.declared.Entries.{Entries}
 use Rattle.district_pairs.specs.Entries.{entry_of}
 use Rattle.district_pairs.proofs.Walk.{with_one}

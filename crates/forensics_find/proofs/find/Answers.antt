@@ -62,6 +62,3 @@ returns-clause-findings c =
     (c.shape_of.ensures ∙ ap (λ (S : ℕ). shape_of 4 S a.a.now) size)
     (c.shape_of-2.ensures ∙ ap (λ (S : ℕ). shape_of 4 S a.b.now) size) _ _
     (rw size at c.found-ruled.ensures.findings) c.leaf_rows-rows.ensures
-
-pub returns-clause-fork : goal.returns-clause-fork
-returns-clause-fork c = c.found-ruled.ensures.fork

@@ -8,27 +8,12 @@ use Rattle.forensics_find.proofs.Reached.{index_kept}
 use Rattle.forensics_find.proofs.Shown.{read-says}
 use Rattle.forensics_find.proofs.found.Goals as goal
 
-pub record_count-requires : goal.record_count-requires
-record_count-requires c = c.requires.0.long
-
-pub record_count-requires-2 : goal.record_count-requires-2
-record_count-requires-2 c = c.requires.3.long
-
 pub difference-difference-requires : goal.difference-difference-requires
 difference-difference-requires c =
     let a = c.args in
     let p = c.requires in
     rw (c.record_count.ensures.0, c.record_count-2.ensures.0)
     (p.0.width, omega (arith, records-inside a.width a.size a.a.now p.1), omega (arith, records-inside a.width a.size a.b.now p.4))
-
-pub receipts_of-first-requires : goal.receipts_of-first-requires
-receipts_of-first-requires c = let p = c.requires in (p.0, p.1, p.2)
-
-pub receipts_of-second-requires : goal.receipts_of-second-requires
-receipts_of-second-requires c = let p = c.requires in (p.3, p.4, p.5)
-
-pub rows-requires : goal.rows-requires
-rows-requires c = let p = c.requires in (p.0, p.1, p.3, p.4)
 
 pub returns-clause-findings : goal.returns-clause-findings
 returns-clause-findings c =
@@ -40,6 +25,3 @@ returns-clause-findings c =
     c.record_count-2.ensures.0
     c.receipts_of-first.ensures c.receipts_of-second.ensures (rw is at c.fork.ensures.index)
     (rw is at c.rows.ensures)
-
-pub returns-clause-fork : goal.returns-clause-fork
-returns-clause-fork c = c.fork.ensures.from_one c.difference-difference.ensures.from_one

@@ -1,8 +1,6 @@
--- Each lane by itself.
-use Rattle.sha256_lanes.specs.Lane.{lane}
-use Rattle.sha256_lane_words.proofs.Each.{each}
+-- The word of each lane.
+use borrow.Author.Rules.{rules}
 use Rattle.lm_chain_blocks.proofs.joined_lanes.Goals as goal
 
 pub returns : goal.returns
-unfolding lane
-returns c = each _ c.joined.ensures c.joined-2.ensures c.joined-3.ensures c.joined-4.ensures
+returns c = λ l. let h = rw (c.zip.ensures l) at (c.map.ensures l) in search rules

@@ -20,14 +20,6 @@ pub u32_at-requires : goal.u32_at-requires
 unfolding signature_length path_at one_time_bytes
 u32_at-requires c = omega arith
 
-pub overflow_add-end : goal.overflow_add-end
-unfolding signature_length path_at one_time_bytes
-overflow_add-end c = omega arith
-
-pub overflow_add-path : goal.overflow_add-path
-unfolding signature_length path_at one_time_bytes
-overflow_add-path c = omega arith
-
 pub slice_bounds-candidate-end : goal.slice_bounds-candidate-end
 unfolding signature_length path_at one_time_bytes
 slice_bounds-candidate-end c = omega arith
@@ -66,14 +58,14 @@ returns c =
     let count : 8 + c.one_time_size-end.result - 8 ≡ one_time_bytes o = omega arith in
     let path : 8 + c.one_time_size-end.result + 4 ≡ path_at o = omega arith in
     let ots = take (one_time_bytes o) (drop 8 sig) in
-    let Kc : bytes_of c.candidate-candidate.result.key ≡ candidate o (identifier leaf) leaf.q (take 32 ots) (drop 32 ots) message =
+    let Kc : bytes_of c.candidate-candidate.result.value ≡ candidate o (identifier leaf) leaf.q (take 32 ots) (drop 32 ots) message =
     c.candidate-candidate.ensures.key
     ∙ ap (λ (n : ℕ). candidate o (identifier leaf) leaf.q (take 32 (take n (drop 8 sig))) (drop 32 (take n (drop 8 sig))) message) count in
     let C : take 32 (take (8 + c.one_time_size-end.result - 8) (drop 8 sig)) ≡ take 32 (drop 8 sig) =
     take-take 32 (8 + c.one_time_size-end.result - 8) (drop 8 sig) (omega arith) in record {
       root = c.root.ensures
-          ∙ ap (root (identifier leaf) h leaf.q (bytes_of c.candidate-candidate.result.key)) (part_end sig (8 + c.one_time_size-end.result + 4))
-          ∙ ap (λ (n : ℕ). root (identifier leaf) h leaf.q (bytes_of c.candidate-candidate.result.key) (drop n sig)) path
+          ∙ ap (root (identifier leaf) h leaf.q (bytes_of c.candidate-candidate.result.value)) (part_end sig (8 + c.one_time_size-end.result + 4))
+          ∙ ap (λ (n : ℕ). root (identifier leaf) h leaf.q (bytes_of c.candidate-candidate.result.value) (drop n sig)) path
           ∙ ap (λ (k : List ℕ). root (identifier leaf) h leaf.q k (drop (path_at o) sig)) Kc
           ∙ rw (I, q);
       steps = c.candidate-candidate.ensures.steps

@@ -14,9 +14,6 @@ use Rattle.lms.specs.Check.{root_of}
 use Rattle.lms.proofs.Answers.{unformed, other-root, same-root}
 use Rattle.lms.proofs.verify.Goals as goal
 
-pub signature_formed-requires : goal.signature_formed-requires
-signature_formed-requires c = let p = c.requires in (p.0, p.1, p.2)
-
 pub returns-then-not-signature_formed : goal.returns-then-not-signature_formed
 returns-then-not-signature_formed c =
     let a = c.args in
@@ -28,9 +25,6 @@ root_of-candidate-requires c =
     let p = c.requires in
     let facts = formed-facts a.o a.h a.key.now a.signature.now (sym c.signature_formed.ensures ∙ c.if-not-signature_formed.false) in
     (p.0, p.1, p.2, p.3, facts.0, facts.1)
-
-pub matches-requires : goal.matches-requires
-matches-requires c = c.requires.2
 
 pub returns-then-not-matches : goal.returns-then-not-matches
 returns-then-not-matches c =

@@ -1,37 +1,21 @@
--- One record a turn: the term occurs among the records that are left where it occurs among those after record i.
-use mathlib.Core.Path.{refl, sym, ◌∙◌}
-use Prim.Native.Nat.{suc}
-use native.Mathlib.Numerals.{add-one}
-use native.Mathlib.Omega.{arith}
-use Rattle.log_chain.proofs.Records.{fewer_inside}
-use Rattle.log_distinct.proofs.Counting.{occurs-here, occurs-later, occurs-nowhere}
+-- One test a record.
+use mathlib.Core.Bool.{Bool}
+use mathlib.Core.Path.{refl, ◌∙◌}
+use Prim.Native.Nat.{ℕ, ◌+◌, ◌-◌}
+use borrow.Author.Rules.{rules}
+use lib.Dec.{eqb}
+use Rattle.std.proofs.Common.{tests}
+use Rattle.std.proofs.lemmas.Iterator.{YieldsList-from_range}
+use Rattle.std.proofs.lemmas.Iterator.Search.{any_from_yields_List}
+use Rattle.log_chain.specs.Log.{last_term}
+use Rattle.log_chain.specs.Records.{records_of}
+use Rattle.log_distinct.proofs.Counting.{any_later}
 use Rattle.log_distinct.proofs.occurs_after.Goals as goal
-
-pub loop-k-init : goal.loop-k-init
-loop-k-init c = refl
-
-pub last_term-requires : goal.last_term-requires
-last_term-requires c =
-    let a = c.args in
-    (c.requires.0, rw add-one (fewer_inside a.width (suc c.loop-k.k) a.records (omega arith) c.requires.2))
-
-pub returns-then-last_term-term : goal.returns-then-last_term-term
-returns-then-last_term-term c =
-    let l = c.loop-k in
-    let a = c.args in
-    let term = c.last_term.ensures in
-    sym (occurs-here a.width a.records l.k a.s.now term (omega arith) a.term c.if-last_term-term.true) ∙ l.invariant
-
-pub loop-k-preserved : goal.loop-k-preserved
-loop-k-preserved c =
-    let l = c.loop-k in
-    let a = c.args in
-    let term = c.last_term.ensures in
-    let later = occurs-later a.width a.records l.k a.s.now term (omega arith) a.term c.if-last_term-term.false in
-    sym later ∙ l.invariant
 
 pub returns : goal.returns
 returns c =
-    let l = c.loop-k in
     let a = c.args in
-    sym (occurs-nowhere a.width a.records l.k a.s.now a.term (omega arith)) ∙ l.invariant
+    let test : ℕ → Bool = λ k. eqb (last_term (records_of a.width (k + 1) a.s.now)) a.term in
+    any_from_yields_List test _ _ c.any.result c.any.ensures.ran (YieldsList-from_range a.i a.records (a.records - a.i) refl refl)
+    (λ x b q k. search (rules, tests))
+    ∙ any_later a.width a.term a.s.now (a.records - a.i) a.i

@@ -1,8 +1,6 @@
 -- The sum of each lane.
-use Rattle.sha256_lanes.specs.Lane.{lane}
-use Rattle.sha256_lane_words.proofs.Each.{each}
+use borrow.Author.Rules.{rules}
 use Rattle.sha256_lanes.proofs.sums.Goals as goal
 
 pub returns : goal.returns
-unfolding lane
-returns c = each _ c.plus.ensures c.plus-2.ensures c.plus-3.ensures c.plus-4.ensures
+returns c = λ l. let h = c.map.ensures l in search rules

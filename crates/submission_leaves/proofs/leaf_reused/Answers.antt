@@ -1,24 +1,21 @@
--- One entry a turn.
+-- One test an entry.
+use mathlib.Core.Bool.{Bool}
+use mathlib.Core.Path.{refl, ◌∙◌}
+use Prim.Native.Nat.{ℕ}
+use native.Mathlib.Omega.{arith}
+use borrow.Author.Rules.{rules}
+use Rattle.std.proofs.Common.{tests}
+use Rattle.std.proofs.lemmas.Iterator.{YieldsList-from_range}
+use Rattle.std.proofs.lemmas.Iterator.Search.{any_from_yields_List}
+use Rattle.lm_format.specs.Uses.{reused}
 use Rattle.submission_leaves.specs.Entries.{entry_use_at}
-use Rattle.submission_leaves.proofs.Entries.{all_left, found, not_found, none_left}
+use Rattle.submission_leaves.proofs.Entries.{any_entry}
 use Rattle.submission_leaves.proofs.leaf_reused.Goals as goal
 
-pub loop-j-init : goal.loop-j-init
-loop-j-init c = all_left _ _ _
-
-pub returns-then-entries_reused : goal.returns-then-entries_reused
-unfolding entry_use_at
-returns-then-entries_reused c =
-    let l = c.loop-j in
-    found _ _ _ l.j l.invariant c.loop-j-test.true c.entries_reused.ensures c.if-entries_reused.true
-
-pub loop-j-preserved : goal.loop-j-preserved
-unfolding entry_use_at
-loop-j-preserved c =
-    let l = c.loop-j in
-    not_found _ _ _ l.j l.invariant c.loop-j-test.true c.entries_reused.ensures c.if-entries_reused.false
-
 pub returns : goal.returns
+unfolding entry_use_at
 returns c =
-    let l = c.loop-j in
-    none_left _ _ _ l.j l.invariant c.loop-j-test.false
+    let a = c.args in
+    let test : ℕ → Bool = λ j. reused (entry_use_at a.i a.buffer.now) (entry_use_at j a.buffer.now) in
+    any_from_yields_List test _ _ c.any.result c.any.ensures.ran (YieldsList-from_range 0 a.n a.n refl (omega arith)) (λ x b q k. search (rules, tests))
+    ∙ any_entry a.buffer.now (entry_use_at a.i a.buffer.now) a.n 0

@@ -9,8 +9,8 @@ use Rattle.text_report.proofs.put_lines.Goals as goal
 pub returns : goal.returns
 unfolding lines
 returns c =
-    let number = c.wide.ensures.0 in
-    let place = c.wide-2.ensures.0 in
+    let number = c.from.ensures in
+    let place = c.from-2.ensures in
     let index = c.u32_at.ensures.0 in
     let refusal = put_same c.put_refusal-first.ensures (refusal_of number place) in
     let fork = put_same c.put_fork-second.ensures (ap fork_line index) in

@@ -15,10 +15,10 @@ pub returns : goal.returns
 returns c =
     let a = c.args in
     let report = a.report.now in
-    let rule = c.wide-rule in
+    let rule = c.from-rule in
     let term = c.u32_at-term in
     let mask = c.u16_at.ensures.0 in
     let test = c.signer.ensures in
     let told-so = told report a.k mask test (c.if-not-signer.false) in
     put_same c.put_replica.ensures
-    (named report a.k rule.result term.result told-so rule.ensures.0 term.ensures.0)
+    (named report a.k rule.result term.result told-so rule.ensures term.ensures.0)

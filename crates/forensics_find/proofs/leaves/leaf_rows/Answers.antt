@@ -1,5 +1,5 @@
 -- One replica a turn: the rows of the replicas before it are done.
-use mathlib.Core.Path.{◌≡◌, refl, sym, ap₂, ◌∙◌}
+use mathlib.Core.Path.{◌≡◌, refl, ap₂, ◌∙◌}
 use mathlib.Core.List.{List}
 use Prim.Native.Nat.{ℕ, ◌+◌, ◌-◌}
 use native.Mathlib.Omega.{arith}
@@ -18,17 +18,11 @@ pub loop-i-init : goal.loop-i-init
 unfolding rows_by
 loop-i-init c = (record { few = omega arith; long = refl; done = refl }, refl)
 
-pub slice_bounds-replica_row-end : goal.slice_bounds-replica_row-end
-slice_bounds-replica_row-end c = sym c.loop-i.invariant.1
-
 pub replica_row-leaves-requires : goal.replica_row-leaves-requires
 replica_row-leaves-requires c =
     let p = c.requires in
     let l = c.loop-i in
     (p.0, p.1, omega arith, omega arith, omega (arith, l.invariant.1))
-
-pub bounds-out-i : goal.bounds-out-i
-bounds-out-i c = omega (arith, c.loop-i.invariant.0.long)
 
 pub loop-i-preserved : goal.loop-i-preserved
 loop-i-preserved c =

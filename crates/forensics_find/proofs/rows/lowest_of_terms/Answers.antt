@@ -6,14 +6,6 @@ use Rattle.forensics_charges.specs.Charges.{charge_of}
 use Rattle.forensics_find.proofs.Left.{inside_all, rows_all, first-inside, next-inside, inside_next, rows_next, rows-done, end-inside}
 use Rattle.forensics_find.proofs.rows.lowest_of_terms.Goals as goal
 
-pub leaders_from-at-requires : goal.leaders_from-at-requires
-leaders_from-at-requires g c =
-    let p = c.requires.laid_out.0 in
-    (p.long, p.records, p.width)
-
-pub leader_count-later-requires : goal.leader_count-later-requires
-leader_count-later-requires g c = c.requires.laid_out.0.long
-
 pub loop-later-init : goal.loop-later-init
 unfolding charge_of lowest
 loop-later-init g c =

@@ -9,9 +9,6 @@ pub loop-i-init : goal.loop-i-init
 unfolding rows_by
 loop-i-init c = record { few = omega arith; long = refl; done = refl }
 
-pub row-requires : goal.row-requires
-row-requires c = let p = c.requires in (omega arith, p.0, p.1, p.2, p.3)
-
 pub loop-i-preserved : goal.loop-i-preserved
 loop-i-preserved c =
     fill _ c.loop-i.place-items c.loop-i.i _ c.loop-i.invariant c.loop-i-test.true

@@ -14,4 +14,4 @@ unfolding coef
 returns c =
     let a = c.args in
     let whole = c.requires.0 in
-    rw (shifted_one a.bits whole, c.wide.ensures.0, ← digit-byte a.bits whole a.i) (refl, digit_lt a.bits a.s.now a.i)
+    rw (shifted_one a.bits whole, c.from.ensures, ← digit-byte a.bits whole a.i) (refl, digit_lt a.bits a.s.now a.i)

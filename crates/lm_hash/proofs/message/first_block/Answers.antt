@@ -1,28 +1,16 @@
--- One byte a turn.
--- A loop that fills a buffer, with the needs of any such loop; the step that is its own is `block_step`.
-use mathlib.Core.Path.{◌≡◌, refl, sym, ◌∙◌}
-use mathlib.Core.List.{◌++◌}
-use native.Mathlib.Omega.{arith}
-use borrow.Author.Rules.{rules}
-use lib.ListN.{length-set}
-use lib.Seq.{take_all}
-use Rattle.lm_hash.proofs.Heads.{block_step}
+-- The bytes of the two stand where they are copied to, and zeros after them.
+use Rattle.std.proofs.Common.{◌≡◌, ◌-◌, length, rules}
+use Prim.Native.Nat.{min}
+use Rattle.lm_hash.proofs.Heads.{placed}
 use Rattle.lm_hash.proofs.message.first_block.Goals as goal
-
-pub loop-i-init : goal.loop-i-init
-loop-i-init c = (search rules, refl)
-
-pub loop-i-preserved : goal.loop-i-preserved
-loop-i-preserved c =
-    let l = c.loop-i in
-    let a = c.args in (
-      simp length-set l.invariant.0,
-      block_step (a.head.now ++ a.message.now) l.block l.i c.byte_at.result (omega arith) (omega arith)
-          c.byte_at.ensures l.invariant.1,
-    )
 
 pub returns : goal.returns
 returns c =
-    let l = c.loop-i in
-    let end : l.i ≡ 64 = omega arith in
-    sym (take_all 64 l.block (omega arith)) ∙ (rw end at l.invariant.1)
+    let head = c.args.head.now in
+    let message = c.args.message.now in
+    let n = c.min-start in
+    let m = c.min-more in
+    let first : n.result ≡ min (length head) 64 = search rules in
+    let second : m.result ≡ min (length message) (64 - n.result) = search rules in
+    placed head message c.copy_from_slice.new.self c.copy_from_slice-2.new.self n.result m.result
+    c.copy_from_slice.ensures.after c.copy_from_slice-2.ensures.after first second

@@ -21,9 +21,6 @@ pub tagged_message-q-requires : goal.tagged_message-q-requires
 tagged_message-q-requires c =
     (lit< tt, simp length-take (omega (arith, c.requires.2)), c.requires.1)
 
-pub with_checksum-checked-requires : goal.with_checksum-checked-requires
-with_checksum-checked-requires c = c.requires.0
-
 pub put_ends-requires : goal.put_ends-requires
 put_ends-requires c =
     let o = c.args.o in
@@ -32,10 +29,6 @@ put_ends-requires c =
     rw (part_end sig 32, length-drop) (omega (arith, c.requires.2)) in
     (c.requires.0, search rules, rest, omega (arith, few o c.requires.0))
 
-pub overflow_mul-n : goal.overflow_mul-n
-overflow_mul-n c =
-    omega (arith, few c.args.o c.requires.0)
-
 pub slice_bounds-ends-end : goal.slice_bounds-ends-end
 slice_bounds-ends-end c =
     omega (arith, few c.args.o c.requires.0, c.put_ends.auto.out)
@@ -43,10 +36,6 @@ slice_bounds-ends-end c =
 pub slice_bounds-tagged-end : goal.slice_bounds-tagged-end
 slice_bounds-tagged-end c =
     simp length-take (omega (arith, few c.args.o c.requires.0, c.put_ends.auto.out))
-
-pub tagged-requires : goal.tagged-requires
-tagged-requires c =
-    (lit< tt, simp length-take (omega (arith, few c.args.o c.requires.0)))
 
 pub returns : goal.returns
 unfolding candidate message_hash D-MESG D-PBLC
@@ -58,10 +47,10 @@ returns c =
     let I = identifier leaf in
     let Q = message_hash I leaf.q (take 32 sig) message in
     let hash : c.bytes.result ≡ Q = c.bytes.ensures ∙ c.tagged_message-q.ensures in
-    let s : c.with_checksum-checked.result.bytes ≡ with_checksum o Q =
+    let s : c.with_checksum-checked.result.value ≡ with_checksum o Q =
     c.with_checksum-checked.ensures.bytes ∙ ap (with_checksum o) hash in
     let all : take (32 * o.chains) c.put_ends.new.out ≡ ends o I leaf.q (with_checksum o Q) (drop 32 sig) o.chains =
     c.put_ends.ensures
-    ∙ ap (λ (y : List ℕ). ends o I leaf.q c.with_checksum-checked.result.bytes y o.chains) (part_end sig 32)
+    ∙ ap (λ (y : List ℕ). ends o I leaf.q c.with_checksum-checked.result.value y o.chains) (part_end sig 32)
     ∙ ap (λ (d : List ℕ). ends o I leaf.q d (drop 32 sig) o.chains) s in
     record { key = c.tagged.ensures ∙ ap (tagged I leaf.q D-PBLC) all; steps = c.with_checksum-checked.ensures.steps ∙ ap (steps o) hash }

@@ -1,6 +1,6 @@
 -- One end a turn, after the ones before it.
 use Prim.Native.Nat.{◌*◌}
-use mathlib.Core.Path.{◌≡◌, refl, sym, ◌∙◌}
+use mathlib.Core.Path.{◌≡◌, refl, ◌∙◌}
 use native.Mathlib.Omega.{arith}
 use lib.Seq.{length-sets}
 use Rattle.sha256.specs.Sha256.{bytes_of}
@@ -11,28 +11,13 @@ use Rattle.lm_ots.proofs.Rows.{joined, joined_step, joined-ends}
 use borrow.Author.Rules.{rules}
 use Rattle.lm_ots.proofs.candidate.put_ends.Goals as goal
 
-pub walk-v-requires : goal.walk-v-requires
-walk-v-requires c =
-    let p = c.requires in
-    (p.0, p.1, p.2)
-
 pub loop-i-init : goal.loop-i-init
 unfolding joined
 loop-i-init c = (refl, refl, search rules)
 
-pub overflow_mul-i : goal.overflow_mul-i
-overflow_mul-i c =
-    omega (arith, few c.args.o c.requires.0)
-
-pub slice_bounds-value_at-end : goal.slice_bounds-value_at-end
-slice_bounds-value_at-end c = sym c.loop-i.invariant.2
-
 pub value_at-requires : goal.value_at-requires
 value_at-requires c =
     omega (arith, few c.args.o c.requires.0, c.loop-i.invariant.2)
-
-pub put_value-requires : goal.put_value-requires
-put_value-requires c = omega (arith, c.requires.3)
 
 pub loop-i-preserved : goal.loop-i-preserved
 loop-i-preserved c =
@@ -44,9 +29,6 @@ loop-i-preserved c =
           (joined_step c.walk-v.result l.out (bytes_of z) l.i c.value_at.ensures (length-bytes z) (omega (arith, c.requires.3)) l.invariant.1),
       l.invariant.2,
     )
-
-pub shape_of-out : goal.shape_of-out
-shape_of-out c = c.loop-i.invariant.0
 
 pub returns : goal.returns
 returns c =
