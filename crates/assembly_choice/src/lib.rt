@@ -18,6 +18,7 @@ use roster::REPLICAS_MOST;
 use submission_trailer::LEADER_MOST;
 
 // The widths of the bag's items, and the number of terms.
+// Flat, as `LogSizes`, `Plan` and `Sought` are: a struct of the two widths would only make each path longer.
 #[derive(Clone, Copy)]
 pub struct Terms {
     pub width: usize,

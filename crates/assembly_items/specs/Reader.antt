@@ -1,5 +1,6 @@
 -- The items of a bag as the code reads them: where each part stands.
-use Rattle.std.specs.Prelude.{Option, Some, None, cond, List, [], ◌∷◌, ℕ, ◌+◌, ◌-◌, leb, ltb, length, get_or, take, drop}
+use Rattle.std.specs.Prelude.{Option, Some, None}
+use Rattle.std.specs.Prelude.{cond, List, [], ◌∷◌, ℕ, ◌+◌, ◌-◌, leb, ltb, length, get_or, take, drop}
 use Rattle.words.specs.BigEndian.{number_at}
 use Rattle.refusal.specs.Checks.{all}
 use Rattle.assembly.specs.Items.{Item, statement_size}

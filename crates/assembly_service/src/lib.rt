@@ -3,6 +3,8 @@
 #![tactic(auto)]
 
 ghost use Rattle.std.specs.Prelude.{◌≡◌, ◌+◌, ◌*◌, ◌≤◌, length, take, drop};
+ghost use Rattle.std.specs.Result.{result_unwrap_or};
+ghost use Rattle.refusal.specs.Refusals.{number_of};
 ghost use Rattle.words.specs.Widths.{width_most};
 ghost use Rattle.roster.specs.Sizes.{signature_most};
 ghost use Rattle.submission.specs.Validate.{form_of, leader_most};
@@ -16,8 +18,8 @@ use assembly_choice::Terms;
 use assembly_commit::LogSizes;
 use assembly_copies::TAKEN_SIZE;
 use assembly_writer::Plan;
+use refusal::Refusal;
 use submission_trailer::{LEADER_MOST, RECORD_MOST, TERM_SIZE};
-use written::Written;
 
 // What a stamp and a vote have of their own (term, index, pointer; and the term before it), and the tables of
 // both.
@@ -46,22 +48,22 @@ fn log_counted(log: &[u8], width: usize) -> bool
     log_distinct::terms_at_most(log, width, records, LEADER_MOST)
 }
 
-// The first of checks 8, 11 and 19 that is not met, or 0.
-fn input_number(log: &[u8], items: &[u8], width: usize, size: usize) -> u32
+// Checks 8, 11 and 19: the first that is not met.
+fn validate_input(log: &[u8], items: &[u8], width: usize, size: usize) -> Result<(), Refusal>
     requires { (width ≤ width_most) × (size ≤ signature_most) }
-    ensures { result ≡ paper.input_number width size log.now items.now }
+    ensures { number_of result ≡ paper.input_number width size log.now items.now }
 {
     if !log_counted(log, width) {
-        return 8;
+        return Err(Refusal::Counts);
     }
     let records = log.len() / log_chain::record_size(width);
     if !log_terms::terms_in_order(log, width, records) {
-        return 11;
+        return Err(Refusal::TermOrder);
     }
     if !assembly_items::items_whole(items, width, size) {
-        return 19;
+        return Err(Refusal::Item);
     }
-    0
+    Ok(())
 }
 
 // Finds the commit, and puts its row down at a place of the rows.
@@ -122,12 +124,17 @@ fn take_rows(
 }
 
 // Assembles what the checks have let through.
-fn assemble_checked(roster: &[u8], log: &[u8], items: &[u8], output: &mut [u8]) -> Written
+fn assemble_checked(
+    roster: &[u8],
+    log: &[u8],
+    items: &[u8],
+    output: &mut [u8],
+) -> Result<usize, Refusal>
     requires { Checked roster.now log.now items.now }
-    ensures number { result.number
+    ensures number { number_of result
         ≡ paper.assemble_number roster.now log.now items.now
         output.old }
-    ensures length { result.length
+    ensures length { result_unwrap_or result 0
         ≡ paper.assemble_length roster.now log.now items.now
         output.old }
     ensures bytes { output.new
@@ -138,7 +145,7 @@ fn assemble_checked(roster: &[u8], log: &[u8], items: &[u8], output: &mut [u8]) 
     let mut stamps = [0u8; STAMPS_ROOM];
     let mut taken = [0usize; TAKEN_ROOM];
     let Some(leaders) = take_rows(roster, log, items, &mut votes, &mut stamps, &mut taken) else {
-        return written::refused(20);
+        return Err(Refusal::NoLeader);
     };
     let plan = Plan {
         width: TERM_SIZE,
@@ -148,32 +155,30 @@ fn assemble_checked(roster: &[u8], log: &[u8], items: &[u8], output: &mut [u8]) 
         leaders,
     };
     if output.len() < assembly_writer::sizes::written_size(log, plan, &taken) {
-        return written::refused(21);
+        return Err(Refusal::ShortOutput);
     }
-    let length = assembly_writer::write(output, roster, log, items, &votes, plan, &taken);
-    Written { number: 0, length }
+    Ok(assembly_writer::write(output, roster, log, items, &votes, plan, &taken))
 }
 
-// Assembles a submission: the number, and with number 0 how many bytes of the output were written; a refusal
+// Assembles a submission: how many bytes of the output were written, or the first refusal that applies, which
 // writes nothing.
-pub fn assemble(roster: &[u8], log: &[u8], items: &[u8], output: &mut [u8]) -> Written
-    ensures number { result.number
+pub fn assemble(
+    roster: &[u8],
+    log: &[u8],
+    items: &[u8],
+    output: &mut [u8],
+) -> Result<usize, Refusal>
+    ensures number { number_of result
         ≡ paper.assemble_number roster.now log.now items.now
         output.old }
-    ensures length { result.length
+    ensures length { result_unwrap_or result 0
         ≡ paper.assemble_length roster.now log.now items.now
         output.old }
     ensures bytes { output.new
         ≡ paper.output_after roster.now log.now items.now
         output.old }
 {
-    let refused = roster_checks::validate(roster);
-    if refused != 0 {
-        return written::refused(refused);
-    }
-    let number = input_number(log, items, TERM_SIZE, roster::signature_size(roster));
-    if number != 0 {
-        return written::refused(number);
-    }
+    roster_checks::validate(roster)?;
+    validate_input(log, items, TERM_SIZE, roster::signature_size(roster))?;
     assemble_checked(roster, log, items, output)
 }

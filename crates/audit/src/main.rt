@@ -22,7 +22,7 @@ fn report_lines(
         (replicate report_size 0)) }
 {
     let mut report = [0u8; report::REPORT_SIZE];
-    audit_pair::audit(roster, first, second, &mut report);
+    let _ = audit_pair::audit(roster, first, second, &mut report);
     text_report::text(report, out)
 }
 

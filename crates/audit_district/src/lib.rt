@@ -5,6 +5,7 @@
 ghost use Rattle.std.specs.Prelude.{◌≡◌, true, ◌+◌, ◌≤◌, length};
 ghost use Rattle.std.proofs.lemmas.List.Edits.{sets};
 ghost use Rattle.words.specs.Over.{over};
+ghost use Rattle.refusal.specs.Refusals.{number_of};
 ghost use Rattle.roster.specs.Roster.{roster_number};
 ghost use Rattle.district_parts.specs.Parts.{parts, counted, adds_up};
 ghost use Rattle.district.specs.District as paper;
@@ -12,6 +13,7 @@ ghost use Rattle.district_pairs.specs.Entries as inner;
 
 use district::{HIGHER_AT, LOWER_AT, Shown, TAIL_SIZE};
 use district_pairs::Entries;
+use refusal::Refusal;
 
 // Judges each submission, writes its number to its byte of the report, and gives those that are accepted.
 fn judge(roster: &[u8], buffer: &[u8], lengths: &[u32], report: &mut [u8]) -> Entries
@@ -26,15 +28,13 @@ fn judge(roster: &[u8], buffer: &[u8], lengths: &[u32], report: &mut [u8]) -> En
 {
     let mut entries = district_pairs::no_entries();
     let mut at = 0;
-    let mut i = 0;
-    while i < lengths.len() {
-        let size = lengths[i] as usize;
+    for (i, length) in lengths.iter().enumerate() {
+        let size = *length as usize;
         let end = at + size;
         let validated = submission_checks::validate_submission(roster, &buffer[at..end]);
-        words::put_u8(report, i, validated.number);
+        words::put_u8(report, i, refusal::number_of(&validated));
         entries = district_pairs::with_judged(entries, validated, i, at, size);
         at = end;
-        i += 1;
     }
     entries
 }
@@ -64,28 +64,30 @@ fn write(roster: &[u8], buffer: &[u8], lengths: &[u32], report: &mut [u8])
     put_tail(report, lengths.len(), shown);
 }
 
-// The audit of a district: the number, and with number 0 the report; a refused run writes nothing.
-pub fn audit(roster: &[u8], buffer: &[u8], lengths: &[u32], report: &mut [u8]) -> u32
-    ensures number { result
+// The audit of a district: the report, or a refusal that writes nothing.
+pub fn audit(
+    roster: &[u8],
+    buffer: &[u8],
+    lengths: &[u32],
+    report: &mut [u8],
+) -> Result<(), Refusal>
+    ensures number { number_of result
         ≡ paper.district_number roster.now buffer.now lengths.now
         report.old }
     ensures bytes { report.new
         ≡ paper.district_after roster.now buffer.now lengths.now
         report.old }
 {
-    let refused = roster_checks::validate(roster);
-    if refused != 0 {
-        return refused;
-    }
+    roster_checks::validate(roster)?;
     if !district_parts::count_in_range(lengths) {
-        return 17;
+        return Err(Refusal::LengthCount);
     }
     if !district_parts::lengths_add_up(lengths, buffer) {
-        return 18;
+        return Err(Refusal::LengthSum);
     }
     if report.len() < lengths.len() + TAIL_SIZE {
-        return 1;
+        return Err(Refusal::ShortReport);
     }
     write(roster, buffer, lengths, report);
-    0
+    Ok(())
 }

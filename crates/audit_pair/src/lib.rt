@@ -2,74 +2,73 @@
 // accepted submissions show.
 #![tactic(auto)]
 
-ghost use Rattle.std.specs.Prelude.{◌≡◌, ◌++◌, ◌≤◌, length, drop};
+ghost use Rattle.std.specs.Prelude.{◌≡◌, ◌++◌, ◌≤◌, length, drop, Ok, Err, IfOk, IfErr};
+ghost use Rattle.refusal.specs.Refusals.{number_of};
 ghost use Rattle.forensics.specs.Findings.{found_in};
 ghost use Rattle.report.specs.Report.{report_size, report_bytes, audit_number, report_after};
-ghost use Rattle.audit_pair.specs.declared.Outcome.TheVariants.{Refused};
 ghost use Rattle.audit_pair.specs.Outcomes as inner;
 
 use log_terms::LogPointers;
+use refusal::Refusal;
 
-// Whether roster and submissions are accepted; if not, the number and where: 0 for the roster, 1 or 2 for the
-// submission.
-#[derive(Clone, Copy)]
-pub enum Outcome {
-    Accepted,
-    Refused(u32, u32),
+// What is refused: the roster, or the first or the second submission. The numbers are those of the report.
+#[derive(Clone, Copy, PartialEq, Eq)]
+pub enum Place {
+    Roster = 0,
+    First = 1,
+    Second = 2,
 }
 
-// What validating gives: the outcome, and the pointers of both submissions where they are accepted.
-#[derive(Clone, Copy)]
-pub struct Validation {
-    pub outcome: Outcome,
-    pub first: LogPointers,
-    pub second: LogPointers,
-}
-
-// A refusal with this number and place, and pointer 0 for all.
-fn refused(number: u32, place: u32) -> Validation
-    ensures { result.outcome ≡ Refused number place }
-{
-    let zero = log_terms::pointers::pointers_zero();
-    Validation {
-        outcome: Outcome::Refused(number, place),
-        first: zero,
-        second: zero,
+impl Place {
+    // Its number.
+    pub fn number(self) -> u32
+        ensures { result ≡ inner.place self }
+    {
+        self as u32
     }
 }
 
-// The roster first, then the first submission, then the second.
-pub fn validate(roster: &[u8], first: &[u8], second: &[u8]) -> Validation
-    ensures outcome { result.outcome
+// A refusal, and of what.
+#[derive(Clone, Copy, PartialEq, Eq)]
+pub struct Refused {
+    pub refusal: Refusal,
+    pub place: Place,
+}
+
+// What a check gives, with the place beside a refusal.
+fn placed<T>(checked: Result<T, Refusal>, place: Place) -> Result<T, Refused>
+    ensures accepted { IfOk result (λ x. checked ≡ Ok x) }
+    ensures refused { IfErr result (λ r. (checked ≡ Err r.refusal) × (r.place ≡ place)) }
+{
+    checked.map_err(|refusal| Refused { refusal, place })
+}
+
+// The roster first, then the first submission, then the second. Where they are accepted it gives the pointers
+// of both submissions.
+pub fn validate(
+    roster: &[u8],
+    first: &[u8],
+    second: &[u8],
+) -> Result<(LogPointers, LogPointers), Refused>
+    ensures outcome { inner.outcome_of result
         ≡ inner.outcome roster.now first.now second.now }
-    ensures pointers { inner.PointersHanded roster.now first.now
-        second.now result }
+    ensures pointers { IfOk result (inner.PointersBoth roster.now first.now second.now) }
 {
-    let number = roster_checks::validate(roster);
-    if number != 0 {
-        return refused(number, 0);
-    }
-    let one = submission_checks::validate_submission(roster, first);
-    if one.number != 0 {
-        return refused(one.number, 1);
-    }
-    let two = submission_checks::validate_submission(roster, second);
-    if two.number != 0 {
-        return refused(two.number, 2);
-    }
-    let of_first = one.pointers;
-    let of_second = two.pointers;
-    Validation {
-        outcome: Outcome::Accepted,
-        first: of_first,
-        second: of_second,
-    }
+    placed(roster_checks::validate(roster), Place::Roster)?;
+    let of_first = placed(submission_checks::validate_submission(roster, first), Place::First)?;
+    let of_second = placed(submission_checks::validate_submission(roster, second), Place::Second)?;
+    Ok((of_first, of_second))
 }
 
-// Writes the report of the outcome to a buffer that is long enough, and gives the number.
-fn write(roster: &[u8], first: &[u8], second: &[u8], report: &mut [u8]) -> u32
+// Writes the report of the outcome to a buffer that is long enough.
+fn write(
+    roster: &[u8],
+    first: &[u8],
+    second: &[u8],
+    report: &mut [u8],
+) -> Result<(), Refusal>
     requires { report_size ≤ length report.old }
-    ensures number { result
+    ensures number { number_of result
         ≡ (inner.answer_of (inner.outcome roster.now first.now second.now)
         (found_in roster.now first.now second.now)).number }
     ensures bytes { report.new
@@ -77,25 +76,30 @@ fn write(roster: &[u8], first: &[u8], second: &[u8], report: &mut [u8]) -> u32
         second.now) (found_in roster.now first.now second.now))
         ++ drop report_size report.old }
 {
-    let validation = validate(roster, first, second);
-    let outcome = validation.outcome;
-    let Outcome::Refused(number, place) = outcome else {
-        let found = forensics_find::find(
-            roster,
-            first,
-            second,
-            validation.first,
-            validation.second,
-        );
-        return report_bytes::write_accepted(report, found);
-    };
-    report_bytes::write_refused(report, number, place)
+    match validate(roster, first, second) {
+        Ok((one, other)) => {
+            let found = forensics_find::find(roster, first, second, one, other);
+            report_bytes::write_accepted(report, found);
+            Ok(())
+        }
+        Err(refused) => {
+            let number = refused.refusal.number();
+            let place = refused.place.number();
+            report_bytes::write_refused(report, number, place);
+            Err(refused.refusal)
+        }
+    }
 }
 
-// The audit: 1 and nothing written where the report buffer is below 53 bytes, otherwise the number, with the
+// The audit: refused with nothing written where the report buffer is below 53 bytes, otherwise with the
 // report in the first 53 bytes.
-pub fn audit(roster: &[u8], first: &[u8], second: &[u8], report: &mut [u8]) -> u32
-    ensures number { result
+pub fn audit(
+    roster: &[u8],
+    first: &[u8],
+    second: &[u8],
+    report: &mut [u8],
+) -> Result<(), Refusal>
+    ensures number { number_of result
         ≡ audit_number roster.now first.now second.now
         report.old }
     ensures bytes { report.new
@@ -103,7 +107,7 @@ pub fn audit(roster: &[u8], first: &[u8], second: &[u8], report: &mut [u8]) -> u
         report.old }
 {
     if report.len() < report::REPORT_SIZE {
-        return 1;
+        return Err(Refusal::ShortReport);
     }
     write(roster, first, second, report)
 }

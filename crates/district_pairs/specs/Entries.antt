@@ -9,7 +9,6 @@ use Rattle.log_terms.specs.Pointed.{PointersOf}
 use Rattle.submission.specs.View.{committed}
 use Rattle.submission.specs.Validate.{form_of, view_of, validate}
 use Rattle.log_terms.specs.declared.LogPointers.{LogPointers}
-use Rattle.refusal.specs.declared.Refusal.{Refusal}
 use Rattle.forensics.specs.Findings.{Findings, mask_of}
 use Rattle.district_parts.specs.Parts.{count_most}
 use Rattle.district.specs.declared.Fork.{Fork}
@@ -30,7 +29,7 @@ unfoldable pub entries_of : List ℕ → Entries → List Entry
 entries_of buffer e = map (entry_of buffer) (parts_of e)
 
 -- the submission of index i, from 0, if it is accepted
-unfoldable pub judged : Result LogPointers Refusal → ℕ → ℕ → ℕ → List Part
+unfoldable pub judged : {Refusal : Type 0} → Result LogPointers Refusal → ℕ → ℕ → ℕ → List Part
 judged (Ok pointers) i start size =
     record { position = suc i; start = start; size = size; pointers = pointers } ∷ []
 judged (Err refusal) i start size = []

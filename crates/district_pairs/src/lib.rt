@@ -13,7 +13,6 @@ use district::{Fork, Shown};
 use district_parts::COUNT_MOST;
 use forensics_charges::Findings;
 use log_terms::LogPointers;
-use refusal::Refusal;
 
 // A submission of the buffer: its position among all, from 1, where it stands, and the pointers of its
 // committed records and of its log.
@@ -50,10 +49,10 @@ pub fn no_entries() -> Entries
     }
 }
 
-// The submissions with the next one, of index i from 0, if it is not refused.
-pub fn with_judged(
+// The submissions with the next one, of index i from 0, if it is not refused, whatever the refusal.
+pub fn with_judged<E: Copy>(
     entries: Entries,
-    validated: Result<LogPointers, Refusal>,
+    validated: Result<LogPointers, E>,
     i: usize,
     start: usize,
     size: usize,

@@ -62,7 +62,7 @@ pub fn hirelog_audit(roster: &[u8], first: &[u8], second: &[u8], report: &mut [u
     ensures fairness { Fairness roster.now first.now second.now result
         report.new }
 {
-    audit_pair::audit(roster, first, second, report)
+    refusal::number_of(&audit_pair::audit(roster, first, second, report))
 }
 
 // The audit of a district (document 02, W1): up to nine submissions end to end in one buffer. The number,
@@ -80,7 +80,7 @@ pub fn hirelog_district(roster: &[u8], buffer: &[u8], lengths: &[u32], report: &
     ensures fairness { DistrictFairness roster.now buffer.now
         lengths.now result report.new }
 {
-    audit_district::audit(roster, buffer, lengths, report)
+    refusal::number_of(&audit_district::audit(roster, buffer, lengths, report))
 }
 
 // Assembling a submission (document 02, W3) from a log and a bag of items: the number, and how many of the
@@ -99,5 +99,5 @@ pub fn hirelog_assemble(roster: &[u8], log: &[u8], items: &[u8], output: &mut [u
     ensures assembled { Assembled roster.now log.now result.number result.length
         output.new }
 {
-    assembly_service::assemble(roster, log, items, output)
+    assembly_service::assemble(roster, log, items, output).into()
 }

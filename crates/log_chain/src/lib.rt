@@ -86,7 +86,8 @@ pub fn next_pointer(index: u32, fields: &[u8], before: State) -> State
 }
 
 // Writes a stamp or a receipt to the start of a buffer, and gives the number of its bytes: kind, cluster
-// name, term, index, pointer.
+// name, term, index, pointer. Here and below the kind is any byte, and no `Kind`, which would ask more: docs/
+// names both functions.
 pub fn put_place_statement(
     out: &mut [u8],
     kind: u8,

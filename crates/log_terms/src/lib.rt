@@ -15,8 +15,11 @@ use sha256::State;
 
 pub mod pointers;
 
+// A log is its bytes, with the term's width and the number of records beside them in each call: a type of the
+// three with their bound would ask more of callers of `last_term`, `next_run` and `terms_in_order` (docs/).
+
 // What a walk over the log carries along: the pointer of the last record so far, and that of the last one up
-// to a commit index. Each is pointer 0 where there is no such record.
+// to a commit index. Each is pointer 0 where there is no such record, as the definition `pointer` has it.
 #[derive(Clone, Copy)]
 pub struct LogPointers {
     pub committed: State,
@@ -38,7 +41,7 @@ fn term_after(s: &[u8], width: usize, i: usize) -> u64
     words::number_at(s, log_chain::record_size(width) * i, width)
 }
 
-// The term of record i, 0 for an empty log.
+// The term of record i, 0 for an empty log, as the definition `last_term` has it (document 01).
 pub fn last_term(s: &[u8], width: usize, i: usize) -> u64
     requires { (width ≤ width_most) × (record_size width * i ≤ length s.now) }
     ensures { result ≡ last_term (records_of width i s.now) }

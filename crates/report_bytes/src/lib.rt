@@ -58,7 +58,8 @@ pub fn write_accepted(report: &mut [u8], findings: Findings) -> u32
     0
 }
 
-// Writes the report of a refusal to the buffer's first bytes, keeps the rest, and gives the number.
+// Writes the report of a refusal to the buffer's first bytes, keeps the rest, and gives the number. Number
+// and place are integers, since docs/ names this function, and enums would ask more.
 pub fn write_refused(report: &mut [u8], number: u32, place: u32) -> u32
     requires { report_size ≤ length report.old }
     ensures number { result ≡ (refused number place).number }

@@ -25,6 +25,10 @@ pub const REPLICAS_MOST: usize = 9;
 // The bits of a mask.
 pub const MASK_BITS: usize = 16;
 
+// A roster is its bytes, a replica its number from 1 on, and a size or a count of replicas has its bound in
+// each contract: types with these as invariants would ask more of callers of `key_of`, `signer`, `quorum`,
+// `find` and others, which docs/ names.
+
 // n, of both bytes.
 #[tactic(auto, unfolding(crate::specs::Roster::replicas))]
 pub fn replicas(roster: &[u8]) -> usize
@@ -70,7 +74,7 @@ pub fn tree_type(roster: &[u8], k: usize) -> u32
     words::u32_at(key_of(roster, k), 0)
 }
 
-// The levels of a tree type, 0 for an unknown one.
+// The levels of a tree type, 0 for an unknown one, as in the definition.
 fn levels(number: u32) -> usize
     ensures { (result ≡ paper.levels (height number)) × (result ≤ height_most) }
 {

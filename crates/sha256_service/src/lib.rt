@@ -9,6 +9,9 @@ ghost use Rattle.sha256.specs.Sha256.{sha256};
 use refusal::Refusal;
 use sha256::State;
 
+// A message is its bytes, with the bound in each contract: a type with it would ask more of callers of
+// `tagged_message` and `signature_genuine`, which docs/ names.
+
 // The most bytes that a message may have (document 01, "Digest and signature").
 pub const MESSAGE_MAX: usize = 16777216;
 

@@ -14,7 +14,8 @@ pub const LEAF_SIZE: usize = 4;
 
 pub const ENTRY_SIZE: usize = LEAF_SIZE + 1 + STATEMENT_MOST;
 
-// Puts an entry after n others: a leaf, and a statement of so many bytes with zeros after it.
+// Puts an entry after n others: a leaf, and a statement of so many bytes with zeros after it. The buffer is
+// lent, its count beside it: no heap is a rule of the project, and docs/ names `gather`, which takes both.
 pub fn add_use(buffer: &mut [u8], n: usize, leaf: u32, size: usize, statement: &[u8]) -> usize
     requires { (length statement.now ≡ statement_most) × (size ≤ statement_most)
         × (entry_size * (n + 1) ≤ length buffer.old) }

@@ -35,7 +35,9 @@ pub struct Commit {
     pub signers: u16,
 }
 
-// What check 9 leaves known of a submission: its widths, its counts, and where parts 2 and 3 stand.
+// What check 9 leaves known of a submission: its widths, its counts, and where parts 2 and 3 stand. The bytes
+// stand beside it, or beside the two widths, and contracts say `Bounds`, `Known` or `Checked` of them: a type
+// with these as its invariant would ask more of callers of `commit_part`, `gather`, `tenure_at` (docs/).
 #[derive(Clone, Copy)]
 pub struct Shape {
     pub width: usize,
@@ -164,7 +166,7 @@ pub fn commit_part(s: &[u8], width: usize, size: usize) -> Option<(Commit, usize
     Some((numbers, at))
 }
 
-// The index of a laid-out submission's commit certificate, 0 where there is none.
+// The index of a laid-out submission's commit certificate, 0 where there is none, as in the definition.
 pub fn commit_index(s: &[u8], width: usize, size: usize) -> usize
     requires { Bounds width size s.now × (laid_out width size s.now ≡ true) }
     ensures { result ≡ commit_index (commit_of width size s.now) }

@@ -21,7 +21,8 @@ pub const VERSION: u32 = 1;
 
 pub const TERM_SIZE: usize = 4;
 
-// The trailer's first byte.
+// The trailer's first byte. (A type of bytes that have a trailer would ask more of callers here and in
+// `distance`, which docs/ names.)
 pub fn trailer_at(s: &[u8]) -> usize
     requires { fields.trailer_size ≤ length s.now }
     ensures { result ≡ fields.trailer_at s.now }

@@ -3,10 +3,11 @@
 // numbers); the file `stdout` has what its auditor gives.
 #![tactic(auto)]
 
+use log_terms::LogPointers;
+use refusal::Refusal;
 use sha256::State;
 use std::io;
 use std::rt::Files;
-use submission_checks::Validated;
 
 // Prints a pointer behind a space.
 fn print_pointer(rt: &impl Print, pointer: State) -> io::Result<()> {
@@ -14,11 +15,14 @@ fn print_pointer(rt: &impl Print, pointer: State) -> io::Result<()> {
     test_vectors::print_hex(rt, &pointer.bytes())
 }
 
-// Prints a number and the pointers behind a name, and ends the line.
-fn print_validated(rt: &impl Print, validated: Validated) -> io::Result<()> {
-    let number = validated.number;
+// Prints a number and the pointers behind a name, and ends the line; of a refusal pointer 0 twice.
+fn print_validated(
+    rt: &impl Print,
+    validated: Result<LogPointers, Refusal>,
+) -> io::Result<()> {
+    let number = refusal::number_of(&validated);
     print!(rt; " {number}")?;
-    let pointers = validated.pointers;
+    let pointers = validated.unwrap_or_else(|_| log_terms::pointers::pointers_zero());
     print_pointer(rt, pointers.committed)?;
     print_pointer(rt, pointers.last)?;
     rt.write_all(b"\n")

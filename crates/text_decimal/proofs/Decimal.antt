@@ -1,15 +1,17 @@
--- The laws of decimal digits: of a number below 10, and of any other by a tenth of it; how many there are.
+-- The laws of decimal digits: of a number below 10, and of any other by a tenth of it; they are those that the
+-- library writes.
 -- Assumes nothing.
 use mathlib.Core.Path.{◌≡◌, sym, ap, ◌∙◌}
 use mathlib.Core.Bool.{true, false}
 use mathlib.Core.List.{List, [], ◌∷◌, ◌++◌}
 use mathlib.Core.Logic.{◌⊎◌, inl, inr, ⊎_elim}
 use Prim.Native.Nat.{ℕ, zero, suc, ◌+◌, ◌/◌, ◌%◌, ◌^◌, ◌≤◌, ◌<◌}
-use native.Mathlib.Nat.{pow-suc, le_refl}
+use native.Mathlib.Nat.{pow-suc}
 use native.Mathlib.Omega.{arith}
 use borrow.Author.Tests.{ltb-true, ltb-false, lt-ltb, le-ltb}
-use lib.Dec.{ltb, lit<}
-use lib.ListN.{length, length-append}
+use lib.Dec.{ltb}
+use Rattle.std.proofs.lemmas.Fmt.{decimal_by_steps}
+use Rattle.std.specs.Fmt.{decimal as text}
 use Rattle.refusal.proofs.Laws.{look}
 use Rattle.text_decimal.specs.Decimal.{digits, decimal}
 
@@ -66,26 +68,12 @@ decimal-steps (suc f) n h =
     tenth : (f n : ℕ) → n < 10 ^ suc (suc f) → n / 10 < 10 ^ suc f
     tenth f n h = let p = rw pow-suc at h in omega arith
 
--- ---- how many
+-- ---- the library's text
 
-pub length_low : (n : ℕ) → n < 10 → length (decimal n) ≡ 1
-length_low n h = ap length (decimal_low n h)
-
-pub length_high : (n : ℕ) → 10 ≤ n → length (decimal n) ≡ length (decimal (n / 10)) + 1
-length_high n h = ap length (decimal_high n h) ∙ length-append (decimal (n / 10)) ((48 + n % 10) ∷ [])
-
-length_digits : (f n : ℕ) → length (digits f n) ≤ f
-unfolding digits
-length_digits zero n = le_refl 0
-length_digits (suc f) n =
-    ⊎_elim
-    (λ (h : n < 10). rw (lt-ltb n 10 h) (omega arith))
-    (λ (h : 10 ≤ n). let few = length_digits f (n / 10) in rw (le-ltb n 10 h, length-append) (omega arith))
-    (below_ten n)
-
--- a number of 32 bits has at most ten digits
-pub length_ten : (n : ℕ) → n < 4294967296 → length (decimal n) ≤ 10
-length_ten n h = rw (decimal-steps 9 n (omega arith)) (length_digits 10 n)
-
-pub length-pos : (n : ℕ) → 0 < length (decimal n)
-length-pos n = ⊎_elim (λ (h : n < 10). rw (length_low n h) (lit< tt)) (λ (h : 10 ≤ n). rw (length_high n h) (omega arith)) (below_ten n)
+-- it has the same digits
+pub text-decimal : (n : ℕ) → n < 2 ^ 64 → text n ≡ decimal n
+text-decimal n h =
+    decimal_by_steps (λ (m : ℕ) (ds : List ℕ). ds ≡ decimal m)
+    (λ m low. sym (decimal_low m low))
+    (λ m ds high e. ap (ended m) e ∙ sym (decimal_high m high))
+    n h

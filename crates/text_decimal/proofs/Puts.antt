@@ -1,21 +1,13 @@
--- Bytes put one after the other, into a buffer of zeros, and a number's digits from the last to the first.
+-- Bytes put one after the other, and into a buffer of zeros.
 -- Assumes nothing.
 use mathlib.Core.Path.{◌≡◌, refl, sym, ap, ◌∙◌}
-use mathlib.Core.List.{List, [], ◌∷◌, ◌++◌}
-use Prim.Native.Nat.{ℕ, zero, suc, ◌+◌, ◌-◌, ◌/◌, ◌%◌, ◌≤◌, ◌<◌}
+use mathlib.Core.List.{List, [], ◌++◌}
+use Prim.Native.Nat.{ℕ, zero, suc, ◌+◌, ◌-◌, ◌≤◌}
 use native.Mathlib.Omega.{arith}
-use lib.ListN.{length, length-append, length-replicate, replicate, drop, set}
-use lib.Seq.{sets, set_comm, length-sets, sets-eq}
+use lib.ListN.{length, length-append, length-replicate, replicate, drop}
+use lib.Seq.{sets, length-sets, sets-eq}
 use Rattle.words.proofs.Laws.{sets-append}
-use Rattle.text_decimal.specs.Decimal.{decimal}
 use Rattle.text_decimal.specs.Put.{Put}
-use Rattle.text_decimal.proofs.Decimal.{decimal_low, decimal_high, length_high}
-
--- a store behind a run of stores may come first
-pub set_behind : (l vs : List ℕ) (at j x : ℕ) → at + length vs ≤ j → sets (set l j x) at vs ≡ set (sets l at vs) j x
-set_behind l [] at j x h = refl
-set_behind l (v ∷ vs) at j x h =
-    rw (set_comm l j at x v (λ (e : j ≡ at). omega arith)) (set_behind (set l at v) vs (suc at) j x (omega arith))
 
 module _ {e e₁ e₂ xs ys : List ℕ} {at b c r s : ℕ} where
   pub put_then : Put e e₁ at b xs r → Put e₁ e₂ b c ys s → Put e e₂ at c (xs ++ ys) (r + s)
@@ -60,18 +52,3 @@ put_whole n {e} {xs} {b} {room} p h =
       p.stored ∙ sets-eq xs (zeros n) 0 fits ∙ ap (λ (l : List ℕ). xs ++ l) (drop-zeros (0 + length xs) n)
           ∙ ap (λ (m : ℕ). xs ++ zeros (n - m)) (let e : 0 + length xs ≡ b = omega arith in e),
     )
-
--- ---- digits from the last to the first
-
--- one digit more
-pub digit_step : (l : List ℕ) (at n k : ℕ) → 10 ≤ n → k ≡ length (decimal n)
-    → sets (set l (at + (k - 1)) (48 + n % 10)) at (decimal (n / 10)) ≡ sets l at (decimal n)
-digit_step l at n k h e =
-    let long = length_high n h in
-    let place : at + (k - 1) ≡ at + length (decimal (n / 10)) = omega arith in
-    rw (place, decimal_high n h, sets-append l at (decimal (n / 10)) ((48 + n % 10) ∷ []))
-    (set_behind l (decimal (n / 10)) at (at + length (decimal (n / 10))) (48 + n % 10) (omega arith))
-
--- the first digit
-pub digit_first : (l : List ℕ) (at n : ℕ) → n < 10 → set l at (48 + n) ≡ sets l at (decimal n)
-digit_first l at n h = rw (decimal_low n h)

@@ -44,7 +44,8 @@ fn put_replicas(out: &mut [u8], at: usize, report: &[u8]) -> usize
     next
 }
 
-// Puts the lines of a report at the start of a buffer, and gives their length.
+// Puts the lines of a report at the start of a buffer, and gives their length. Not by `write!`: it gives a
+// Result, and no contract says that it succeeds, while these lines are always put.
 fn put_lines(out: &mut [u8], report: &[u8]) -> usize
     requires { (length report.now ≡ report_size) × (lines_room ≤ length out.old) }
     ensures { Put out.old out.new 0 result (lines report.now) lines_room }

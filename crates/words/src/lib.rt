@@ -7,10 +7,12 @@ ghost use Rattle.std.proofs.lemmas.List.Edits.{sets};
 ghost use Rattle.words.specs.BigEndian.{number_at, be};
 ghost use Rattle.words.specs.Widths.{width_most};
 
-// The most bytes of a number that is held in 64 bits.
+// The most bytes of a number that is held in 64 bits. A width is a `usize` with `width ≤ width_most` in its
+// contract: a type with that bound asks more of callers of `number_at`, `record_size` and others in docs/.
 pub const WIDTH_MOST: usize = 8;
 
-// The 2-byte number at a place.
+// The 2-byte number at a place. (The readers and writers of 2, 4 and `width` bytes stay apart: as one generic
+// function they would read no plainer, with a type of result for each and the shape of `u32_at` for one.)
 pub fn u16_at(s: &[u8], at: usize) -> u16
     requires { at + 2 ≤ length s.now }
     ensures { (result ≡ number_at 2 s.now at) × (result < 65536) }

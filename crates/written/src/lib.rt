@@ -8,7 +8,7 @@ ghost use Rattle.refusal.specs.Refusals.{number_of};
 
 use refusal::Refusal;
 
-// The number, and the bytes that were written.
+// The number, and the bytes that were written, as C has them (include/hirelog.h).
 #[repr(C)]
 #[derive(Clone, Copy)]
 pub struct Written {
@@ -26,15 +26,5 @@ impl From<Result<usize, Refusal>> for Written {
             number: refusal::number_of(&answer),
             length: answer.unwrap_or(0),
         }
-    }
-}
-
-// A refusal: nothing was written.
-pub fn refused(number: u32) -> Written
-    ensures { (result.number ≡ number) × (result.length ≡ 0) }
-{
-    Written {
-        number: number,
-        length: 0,
     }
 }

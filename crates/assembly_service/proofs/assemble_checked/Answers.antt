@@ -1,5 +1,5 @@
 -- The rows first; where a term has no leader, or the output is too small, nothing is written.
-use mathlib.Core.Path.{sym}
+use mathlib.Core.Path.{refl, sym}
 use Prim.Native.Nat.{ℕ}
 use native.Mathlib.Nat.{le_of_eq}
 use native.Mathlib.Omega.{arith}
@@ -21,7 +21,7 @@ returns-in_default c =
     let a = c.args in
     let it =
     missing-answers a.roster.now a.log.now a.items.now a.output.now c.requires _ _ _ c.take_rows.ensures
-    c.in_default.is c.refused.ensures in
+    c.in_default.is (refl, refl) in
     record { number = it.0; length = it.1.0; bytes = it.1.1 }
 
 pub signature_size-requires : goal.signature_size-requires
@@ -51,11 +51,11 @@ returns-then-output-written_size c =
     let held = plan-held a.roster.now a.log.now a.items.now a.output.now c.requires _ _ _ c.take_rows.ensures _ _ c.in-Some.is plan in
     let it =
     short-answers a.roster.now a.log.now a.items.now a.output.now c.requires _ _ _ c.take_rows.ensures _ _ c.in-Some.is plan
-    (c.written_size.ensures _ _ _ held) c.if-output-written_size.true c.refused-then-output-written_size.ensures in
+    (c.written_size.ensures _ _ _ held) c.if-output-written_size.true (refl, refl) in
     record { number = it.0; length = it.1.0; bytes = it.1.1 }
 
-pub write-length-requires : goal.write-length-requires
-write-length-requires c =
+pub write-requires : goal.write-requires
+write-requires c =
     let a = c.args in
     let plan = plan_given a.roster.now a.log.now _ _ _ _ c.signature_size.ensures.0 c.replicas.ensures.0 c.record_size.ensures.0 in
     let held = plan-held a.roster.now a.log.now a.items.now a.output.now c.requires _ _ _ c.take_rows.ensures _ _ c.in-Some.is plan in
@@ -68,5 +68,5 @@ returns c =
     let held = plan-held a.roster.now a.log.now a.items.now a.output.now c.requires _ _ _ c.take_rows.ensures _ _ c.in-Some.is plan in
     let it =
     written-answers a.roster.now a.log.now a.items.now a.output.now c.requires _ _ _ c.take_rows.ensures _ _ c.in-Some.is plan
-    (c.written_size.ensures _ _ _ held) (omega (arith, c.if-output-written_size.false)) c.write-length.ensures.size c.write-length.ensures.bytes in
+    (c.written_size.ensures _ _ _ held) (omega (arith, c.if-output-written_size.false)) c.write.ensures.size c.write.ensures.bytes in
     record { number = it.0; length = it.1.0; bytes = it.1.1 }

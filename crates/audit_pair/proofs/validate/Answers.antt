@@ -1,38 +1,38 @@
--- Each number that is not 0 ends the checks; where both are 0 the pointers are the submissions'.
-use mathlib.Core.Path.{sym, ◌∙◌}
-use Rattle.audit_pair.proofs.Outcomes.{roster-refused, first-refused, second-refused, both-accepted, none-handed, both-handed}
+-- Each refusal ends the checks; where there is none both are accepted.
+use Rattle.std.proofs.lemmas.Result.{err_from_is_err_and}
+use Rattle.audit_pair.proofs.Outcomes.{accepted, roster-refused, first-refused, second-refused, both-accepted}
 use Rattle.audit_pair.proofs.validate.Goals as goal
 
-pub returns-then-number-ne0 : goal.returns-then-number-ne0
-returns-then-number-ne0 c =
+pub returns-in_err-placed-clause-outcome : goal.returns-in_err-placed-clause-outcome
+returns-in_err-placed-clause-outcome c =
     let a = c.args in
-    let r = c.refused.ensures in
-    record { outcome = r ∙ roster-refused a.roster.now a.first.now a.second.now c.validate-number.ensures c.if-number-ne0.true; pointers = none-handed _ _ _ _ r }
+    let r = c.in_err-placed in
+    let exit = err_from_is_err_and c.from_residual.result c.from_residual.ensures.1 in
+    rw (exit.1, exit.2) (roster-refused a.roster.now a.first.now a.second.now r.field-0.0 c.validate.ensures r.ensures.refused)
 
-pub validate_submission-one-requires : goal.validate_submission-one-requires
-validate_submission-one-requires c = sym c.validate-number.ensures ∙ c.if-number-ne0.false
-
-pub returns-then-one-ne0 : goal.returns-then-one-ne0
-returns-then-one-ne0 c =
+pub returns-in_err-of_first-clause-outcome : goal.returns-in_err-of_first-clause-outcome
+returns-in_err-of_first-clause-outcome c =
     let a = c.args in
-    let fine = sym c.validate-number.ensures ∙ c.if-number-ne0.false in
-    let r = c.refused-then-one-ne0.ensures in record { outcome = r ∙ first-refused a.roster.now a.first.now a.second.now fine c.validate_submission-one.ensures.number c.if-one-ne0.true; pointers = none-handed _ _ _ _ r }
+    let r = c.in_err-of_first in
+    let fine = accepted c.validate.ensures c.in_ok-placed.ensures.accepted in
+    let exit = err_from_is_err_and c.from_residual-in_err-of_first.result c.from_residual-in_err-of_first.ensures.1 in
+    rw (exit.1, exit.2)
+    (first-refused a.roster.now a.first.now a.second.now fine r.field-0.0 c.validate_submission.ensures.number r.ensures.refused)
 
-pub validate_submission-two-requires : goal.validate_submission-two-requires
-validate_submission-two-requires c = sym c.validate-number.ensures ∙ c.if-number-ne0.false
-
-pub returns-then-two-ne0 : goal.returns-then-two-ne0
-returns-then-two-ne0 c =
+pub returns-in_err-of_second-clause-outcome : goal.returns-in_err-of_second-clause-outcome
+returns-in_err-of_second-clause-outcome c =
     let a = c.args in
-    let fine = sym c.validate-number.ensures ∙ c.if-number-ne0.false in
-    let first_Fine = sym c.validate_submission-one.ensures.number ∙ c.if-one-ne0.false in
-    let r = c.refused-then-two-ne0.ensures in record { outcome = r ∙ second-refused a.roster.now a.first.now a.second.now fine first_Fine c.validate_submission-two.ensures.number c.if-two-ne0.true; pointers = none-handed _ _ _ _ r }
+    let r = c.in_err-of_second in
+    let fine = accepted c.validate.ensures c.in_ok-placed.ensures.accepted in
+    let one = accepted c.validate_submission.ensures.number c.in_ok-of_first.ensures.accepted in
+    let exit = err_from_is_err_and c.from_residual-in_err-of_second.result c.from_residual-in_err-of_second.ensures.1 in
+    rw (exit.1, exit.2)
+    (second-refused a.roster.now a.first.now a.second.now fine one r.field-0.0 c.validate_submission-2.ensures.number r.ensures.refused)
 
-pub returns : goal.returns
-returns c =
+pub returns-clause-outcome : goal.returns-clause-outcome
+returns-clause-outcome c =
     let a = c.args in
-    let first = c.validate_submission-one in
-    let second = c.validate_submission-two in
-    let fine = sym c.validate-number.ensures ∙ c.if-number-ne0.false in
-    let first_Fine = sym first.ensures.number ∙ c.if-one-ne0.false in
-    let second-fine = sym second.ensures.number ∙ c.if-two-ne0.false in record { outcome = both-accepted a.roster.now a.first.now a.second.now fine first_Fine second-fine; pointers = λ _. both-handed a.roster.now a.first.now a.second.now first.result second.result c.if-one-ne0.false c.if-two-ne0.false first.ensures.pointers second.ensures.pointers }
+    let fine = accepted c.validate.ensures c.in_ok-placed.ensures.accepted in
+    let one = accepted c.validate_submission.ensures.number c.in_ok-of_first.ensures.accepted in
+    let two = accepted c.validate_submission-2.ensures.number c.in_ok-of_second.ensures.accepted in
+    both-accepted a.roster.now a.first.now a.second.now fine one two

@@ -1,4 +1,5 @@
 -- Number and bytes are the audit's; demand 3 stands on them, for slices of bytes.
+use mathlib.Core.Path.{◌∙◌}
 use borrow.Author.Rules.{rules}
 use Prim.Native.Nat.{ℕ, ◌<◌}
 use lib.ListN.{get_or}
@@ -9,7 +10,7 @@ use Rattle.hirelog.proofs.hirelog_audit.Goals as goal
 pub returns : goal.returns
 returns c =
     let a = c.args in
-    let number = c.audit.ensures.number in
+    let number = c.number_of.ensures ∙ c.audit.ensures.number in
     let bytes = c.audit.ensures.bytes in
     let one : (i : ℕ) → get_or a.first.now i 0 < 256 = λ i. (c.type_inv.first i).fits in
     let two : (i : ℕ) → get_or a.second.now i 0 < 256 = λ i. (c.type_inv.second i).fits in record {

@@ -1,4 +1,5 @@
 -- Number and bytes are the district's; demand 3 stands on them, for a buffer of bytes.
+use mathlib.Core.Path.{◌∙◌}
 use borrow.Author.Rules.{rules}
 use Prim.Native.Nat.{ℕ, ◌<◌}
 use lib.ListN.{get_or}
@@ -9,7 +10,7 @@ use Rattle.hirelog.proofs.hirelog_district.Goals as goal
 pub returns : goal.returns
 returns c =
     let a = c.args in
-    let number = c.audit.ensures.number in
+    let number = c.number_of.ensures ∙ c.audit.ensures.number in
     let bytes = c.audit.ensures.bytes in
     let each : (i : ℕ) → get_or a.buffer.now i 0 < 256 = λ i. (c.type_inv.buffer i).fits in record {
       number = number;

@@ -10,7 +10,7 @@ use Rattle.assembly.proofs.Answers.{number-8, number-11, number-19, input-met}
 use Rattle.assembly_service.proofs.Counted.{some_bytes}
 use mathlib.Core.Path.{ap}
 use mathlib.Core.Bool.{not}
-use Rattle.assembly_service.proofs.input_number.Goals as goal
+use Rattle.assembly_service.proofs.validate_input.Goals as goal
 
 pub returns-then-not-log_counted : goal.returns-then-not-log_counted
 returns-then-not-log_counted c = sym (number-8 _ _ _ _ (unmet c.log_counted.ensures (ap not c.if-not-log_counted.true)))
