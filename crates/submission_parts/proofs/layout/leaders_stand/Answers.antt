@@ -32,7 +32,7 @@ overflow_mul-leaders c =
     let few = stamps-le c.leader_count-leaders.result c.args.size (omega arith) c.requires.0.signature in
     omega arith
 
-pub overflow_add-stamps-then-stamps-distance : goal.overflow_add-stamps-2
+pub overflow_add-stamps-then-stamps-distance : goal.overflow_add-stamps-then-stamps-distance
 overflow_add-stamps-then-stamps-distance c =
     let a = c.args in
     let says = place-says a.width a.size a.s.now _ a.from _ _ (sym c.place_after.ensures.0 ∙ c.in-Some.is) in
