@@ -11,14 +11,14 @@ use Rattle.district_pairs.proofs.with_judged.Goals as goal
 
 pub returns-in_default : goal.returns-in_default
 unfolding judged
-returns-in_default c =
+returns-in_default g c =
     let a = c.args in
     let room = c.requires.0 in
     let fewer : a.entries.count ≤ suc a.i = omega (arith, room.taken) in record { parts = rw c.in_default.is (sym (append-nil (parts_of a.entries))); room = record { places = room.places; taken = fewer } }
 
 pub returns : goal.returns
 unfolding parts_of judged
-returns c =
+returns g c =
     let a = c.args in
     let room = c.requires.0 in
     let next : a.entries.count + 1 ≡ suc a.entries.count = omega arith in
