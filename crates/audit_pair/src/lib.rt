@@ -55,18 +55,19 @@ pub fn validate(
     ensures pointers { IfOk result (inner.PointersBoth roster.now first.now second.now) }
 {
     placed(roster_checks::validate(roster), Place::Roster)?;
-    let of_first = placed(submission_checks::validate_submission(roster, first), Place::First)?;
-    let of_second = placed(submission_checks::validate_submission(roster, second), Place::Second)?;
+    let of_first = placed(
+        submission_checks::validate_submission(roster, first),
+        Place::First,
+    )?;
+    let of_second = placed(
+        submission_checks::validate_submission(roster, second),
+        Place::Second,
+    )?;
     Ok((of_first, of_second))
 }
 
 // Writes the report of the outcome to a buffer that is long enough.
-fn write(
-    roster: &[u8],
-    first: &[u8],
-    second: &[u8],
-    report: &mut [u8],
-) -> Result<(), Refusal>
+fn write(roster: &[u8], first: &[u8], second: &[u8], report: &mut [u8]) -> Result<(), Refusal>
     requires { report_size ≤ length report.old }
     ensures number { number_of result
         ≡ (inner.answer_of (inner.outcome roster.now first.now second.now)
@@ -93,12 +94,7 @@ fn write(
 
 // The audit: refused with nothing written where the report buffer is below 53 bytes, otherwise with the
 // report in the first 53 bytes.
-pub fn audit(
-    roster: &[u8],
-    first: &[u8],
-    second: &[u8],
-    report: &mut [u8],
-) -> Result<(), Refusal>
+pub fn audit(roster: &[u8], first: &[u8], second: &[u8], report: &mut [u8]) -> Result<(), Refusal>
     ensures number { number_of result
         ≡ audit_number roster.now first.now second.now
         report.old }

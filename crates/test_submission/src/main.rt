@@ -16,10 +16,7 @@ fn print_pointer(rt: &impl Print, pointer: State) -> io::Result<()> {
 }
 
 // Prints a number and the pointers behind a name, and ends the line; of a refusal pointer 0 twice.
-fn print_validated(
-    rt: &impl Print,
-    validated: Result<LogPointers, Refusal>,
-) -> io::Result<()> {
+fn print_validated(rt: &impl Print, validated: Result<LogPointers, Refusal>) -> io::Result<()> {
     let number = refusal::number_of(&validated);
     print!(rt; " {number}")?;
     let pointers = validated.unwrap_or_else(|_| log_terms::pointers::pointers_zero());

@@ -50,12 +50,7 @@ fn put_lines(out: &mut [u8], report: &[u8]) -> usize
     requires { (length report.now ≡ report_size) × (lines_room ≤ length out.old) }
     ensures { Put out.old out.new 0 result (lines report.now) lines_room }
 {
-    let first = text_line::put_refusal(
-        out,
-        0,
-        u32::from(report[0]),
-        u32::from(report[PLACE_AT]),
-    );
+    let first = text_line::put_refusal(out, 0, u32::from(report[0]), u32::from(report[PLACE_AT]));
     let second = text_line::put_fork(out, first, words::u32_at(report, FORK_AT));
     put_replicas(out, second, report)
 }
