@@ -1,6 +1,5 @@
 -- Number and bytes are the district's; demand 3 stands on them, for a buffer of bytes.
 use mathlib.Core.Path.{◌∙◌}
-use borrow.Author.Rules.{rules}
 use Prim.Native.Nat.{ℕ, ◌<◌}
 use lib.ListN.{get_or}
 use Rattle.words.proofs.Laws.{bytes_each}
