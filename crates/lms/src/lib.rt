@@ -17,7 +17,10 @@ use lm_format::{IDENTIFIER_AT, ONE_TIME_AT, ROOT_AT, TYPE_SIZE};
 use sha256::State;
 
 // Tc, the root that a signature of the right length and leaf number leads to (RFC 8554, 5.4.2, algorithm 6a),
-// with the chain steps (document 02, W7).
+// with the chain steps (document 02, W7). Not inlined: in one function with the tests before it, the compiler
+// makes its 50,000 bytes of room behind some of them, by a register that one of them still reads, and each
+// signature is bad (docs/SPEED.md).
+#[inline(never)]
 fn root_of(o: Parameters, h: u32, key: &[u8], message: &[u8], signature: &[u8]) -> WithSteps<State>
     requires { Listed o × (h ≤ height_most) × (length key.now ≡ key_size) × (length message.now ≤ limit)
         × (length signature.now ≡ signature_length o h) × (number_at 4 signature.now 0 < 2 ^ h) }
