@@ -21,9 +21,9 @@ fn print_answer(rt: &impl Print, answer: Answer) -> io::Result<()> {
     }
 }
 
-// Prints the answer for a line.
-fn print_line(rt: &impl Print, line: &[u8]) -> io::Result<()> {
-    let mut fields = line.split(|c| *c == b' ').skip(2);
+// Prints the answer for the line that `text` starts with.
+fn print_line(rt: &impl Print, text: &[u8]) -> io::Result<()> {
+    let mut fields = text.split(|c| *c == b' ').skip(2);
     let mut key = [0u8; 4096];
     let mut message = [0u8; 4096];
     let mut signature = [0u8; 65536];

@@ -29,7 +29,7 @@ fn print_validated(rt: &impl Print, validated: Result<LogPointers, Refusal>) -> 
 // the output.
 fn print_submission(rt: &(impl Files + Print), roster: &[u8], name: &[u8]) -> io::Result<()> {
     let mut submission = [0u8; 16384];
-    let read = program_files::load(rt, name, &mut submission);
+    let read = test_vectors::load(rt, name, &mut submission);
     rt.write_all(name)?;
     let Some(n) = read else {
         return rt.write_all(b" cannot be read\n");
@@ -48,7 +48,7 @@ const ACCEPTED: [&[u8]; 3] = [b"whole", b"uncommitted", b"committed"];
 
 fn main(rt: HostRuntime) -> io::Result<()> {
     let mut bytes = [0u8; 1024];
-    let n = program_files::load(&rt, b"roster", &mut bytes).unwrap_or(0);
+    let n = test_vectors::load(&rt, b"roster", &mut bytes).unwrap_or(0);
     for name in BY_BYTES.iter().chain(&BY_CONTENT).chain(&ACCEPTED) {
         print_submission(&rt, &bytes[..n], name)?;
     }

@@ -51,6 +51,46 @@ pub fn print_hex(rt: &impl Print, bytes: &[u8]) -> io::Result<()> {
     Ok(())
 }
 
+// Puts the file at the start of `text`, and gives its length; none if the file is empty, cannot be opened or
+// read, or is not shorter than `text`.
+pub fn load(files: &impl Files, name: &[u8], text: &mut [u8]) -> Option<usize>
+    ensures within { IfSome result (λ n. n ≤ length text.new) }
+    ensures taken { IfSome result (λ n. n ≡ length (take n text.new)) }
+{
+    let n = program_files::load(files, name, text)?;
+    if 0 < n && n < text.len() {
+        Some(n)
+    } else {
+        None
+    }
+}
+
+// The place after the first `mark` from `at` on, or the text's end.
+pub fn past(text: &[u8], at: usize, mark: u8) -> usize
+    ensures within { result ≤ length text.now }
+    ensures progress { at < length text.now → at < result }
+{
+    if text.len() <= at {
+        return text.len();
+    }
+    match text[at..].iter().position(|c| *c == mark) {
+        Some(n) => at + n + 1,
+        None => text.len(),
+    }
+}
+
+// Has each line of a text printed: a call gets what stands from the line's beginning on.
+fn print_lines<P: Fn(&[u8]) -> io::Result<()>>(text: &[u8], print_line: P) -> io::Result<()>
+    requires { P.IsAlwaysCallable print_line }
+{
+    let mut at = 0;
+    while at < text.len() {
+        print_line(&text[at..])?;
+        at = past(text, at, b'\n');
+    }
+    Ok(())
+}
+
 // Reads a file into `text`, and has each of its lines printed. A file that cannot be read whole is an error
 // in the output.
 pub fn print_file<P: Fn(&[u8]) -> io::Result<()>>(
@@ -61,11 +101,8 @@ pub fn print_file<P: Fn(&[u8]) -> io::Result<()>>(
 ) -> io::Result<()>
     requires { P.IsAlwaysCallable print_line }
 {
-    let Some(n) = program_files::load(rt, name, text) else {
+    let Some(n) = load(rt, name, text) else {
         return rt.write_all(b"cannot read\n");
     };
-    for line in text[..n].split_inclusive(|c| *c == b'\n') {
-        print_line(line)?;
-    }
-    Ok(())
+    print_lines(&text[..n], print_line)
 }
