@@ -1,7 +1,7 @@
 /*
  * The C interface of libhirelog.a, for x86-64 Linux. A call needs at most 65,536 bytes of stack, but
  * for hirelog_assemble: 81,920 for now; docs/C.md has what was measured, and why. The library allocates
- * nothing, and calls no function but memcpy, memmove and memset.
+ * nothing, and calls no function but memcpy and memset.
  */
 #ifndef HIRELOG_H
 #define HIRELOG_H

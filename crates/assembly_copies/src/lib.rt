@@ -125,6 +125,9 @@ pub fn find_copies(roster: &[u8], items: &[u8], wanted: &[u8], sought: Sought, r
     ensures room { length rows.new ≡ length rows.old }
 {
     clear(rows, REPLICAS_MOST * sought.count);
+    if sought.count == 0 {
+        return;
+    }
     let mut at = 0;
     while at < items.len() {
         let Some(item) = assembly_items::read(items, at, sought.width, sought.size) else {

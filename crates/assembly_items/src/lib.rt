@@ -9,8 +9,6 @@ ghost use Rattle.assembly.specs.Items as paper;
 ghost use Rattle.submission.specs.Sizes.{statement_most};
 ghost use Rattle.assembly_items.specs.Reader.{item_reading};
 
-use log_chain::Kind;
-
 // Where the statement stands in an item, after the replica's number.
 const STATEMENT_AT: usize = 2;
 
@@ -23,21 +21,21 @@ pub struct ItemPlace {
     pub next: usize,
 }
 
-// The bytes of a statement by its kind; none for no kind.
+// The bytes of a statement by its kind; none for no kind. (Not by `Kind::try_from`: of its answer the
+// compiler makes a choice without a branch, so that the place of the next item waits for this one's kind
+// byte, and a walk over a large bag takes two to ten times as long.)
 fn statement_size(width: usize, kind: u8) -> Option<usize>
     requires { width ≤ width_most }
     ensures { MatchOption result (paper.statement_size width kind ≡ 0)
         (λ s. (s ≡ paper.statement_size width kind) × (0 < s) × (s ≤ statement_most)) }
 {
     let name = log_chain::NAME_AT + roster::NAME_SIZE;
-    let Ok(kind) = Kind::try_from(kind) else {
-        return None;
-    };
-    let rest = match kind {
-        Kind::Stamp | Kind::Receipt => width + log_chain::INDEX_SIZE + log_chain::POINTER_SIZE,
-        Kind::Vote => submission::ballot_size(width),
-    };
-    Some(name + rest)
+    match kind {
+        1 => Some(name + width + log_chain::INDEX_SIZE + log_chain::POINTER_SIZE),
+        2 => Some(name + width + log_chain::INDEX_SIZE + log_chain::POINTER_SIZE),
+        3 => Some(name + submission::ballot_size(width)),
+        _ => None,
+    }
 }
 
 // The item at a place; none where its kind is none or the bag ends inside it.

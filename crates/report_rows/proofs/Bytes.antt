@@ -8,7 +8,7 @@ use native.Mathlib.Numerals.{add-one}
 use native.Mathlib.Omega.{arith}
 use lib.ListN.{length, take, get_or, length-append, length-map}
 use lib.Seq.{sets, length-sets, take-suc, length-take-le}
-use Rattle.std.specs.Prelude.{Some, None, unwrap_or}
+use Rattle.std.specs.Prelude.{Some, None}
 use Rattle.words.specs.BigEndian.{be}
 use Rattle.words.proofs.Laws.{length-be, sets-append}
 use Rattle.words.proofs.FlatMap.{flat_map-one}
@@ -23,11 +23,15 @@ unfolding row_bytes be
 length-row none = refl
 length-row (some c) = refl
 
--- without a charge zeros
-pub row-is : (row : Row) → let c = unwrap_or row (record { rule = 0; term = 0 }) in be 1 c.rule ++ be 4 c.term ≡ row_bytes (charge_of row)
+-- a row's rule and term, without a charge zeros
+abbrev pub fields : Row → ℕ × ℕ
+fields None = (0, 0)
+fields (Some c) = (c.rule, c.term)
+
+pub row-is : (row : Row) (f : ℕ × ℕ) → f ≡ fields row → be 1 f.0 ++ be 4 f.1 ≡ row_bytes (charge_of row)
 unfolding row_bytes charge_of meaning
-row-is None = refl
-row-is (Some c) = refl
+row-is None f e = rw e
+row-is (Some c) f e = rw e
 
 -- ---- the rows
 

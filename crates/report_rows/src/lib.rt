@@ -18,9 +18,9 @@ fn put_row(out: &mut [u8], at: usize, row: Option<Charge>)
     requires { at + row_size ≤ length out.old }
     ensures { out.new ≡ sets out.old at (row_bytes (charge_of row)) }
 {
-    let charge = row.unwrap_or(Charge { rule: 0, term: 0 });
-    words::put_u8(out, at, charge.rule as u32);
-    words::put_number(out, at + ROW_TERM_AT, ROW_TERM_SIZE, charge.term);
+    let (rule, term) = row.map_or((0, 0), |charge| (charge.rule, charge.term));
+    words::put_u8(out, at, rule as u32);
+    words::put_number(out, at + ROW_TERM_AT, ROW_TERM_SIZE, term);
 }
 
 // Writes nine rows, one after the other.

@@ -7,14 +7,15 @@ ghost use Rattle.std.specs.Prelude.{◌≡◌, [], length};
 ghost use Rattle.refusal.specs.Checks.{refusal, first};
 ghost use Rattle.refusal.specs.Refusals.{number_of};
 ghost use Rattle.roster.specs.Roster.{roster_number};
-ghost use Rattle.log_chain.specs.Log.{with_terms};
+ghost use Rattle.log_chain.specs.Log.{Form, with_terms};
+ghost use Rattle.submission.specs.View.{View};
 ghost use Rattle.submission.specs.Reading.{view};
 ghost use Rattle.submission_parts.specs.Parts.{Bounds};
 ghost use Rattle.submission_parts.specs.Shapes.{Known, view_in};
 ghost use Rattle.submission.specs.Validate as paper;
 ghost use Rattle.submission_signatures.specs.Checked.{Laid, Counted};
 ghost use Rattle.submission_checks.specs.Checks.{leader_checks, log_checks, part_checks};
-ghost use Rattle.submission_checks.specs.Pointers.{PointersHanded};
+ghost use Rattle.submission_checks.specs.Pointers.{PointersHanded, PointersGiven};
 
 use log_terms::LogPointers;
 use refusal::Refusal;
@@ -119,6 +120,17 @@ pub fn validate_submission(roster: &[u8], s: &[u8]) -> Result<LogPointers, Refus
     }
     let size = roster::signature_size(roster);
     validate_parts(roster, s, submission_trailer::TERM_SIZE, size)
+}
+
+// The pointers that validating hands on, and pointer 0 twice where it refuses.
+pub fn handed(validated: Result<LogPointers, Refusal>) -> LogPointers
+    ensures { (form : Form) (v : View) → PointersHanded form v validated
+        → PointersGiven form v validated result }
+{
+    match validated {
+        Ok(pointers) => pointers,
+        Err(_) => log_terms::pointers::pointers_zero(),
+    }
 }
 
 // The roster's refusal, or what the submission gets against it.

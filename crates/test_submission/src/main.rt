@@ -19,7 +19,7 @@ fn print_pointer(rt: &impl Print, pointer: State) -> io::Result<()> {
 fn print_validated(rt: &impl Print, validated: Result<LogPointers, Refusal>) -> io::Result<()> {
     let number = refusal::number_of(&validated);
     print!(rt; " {number}")?;
-    let pointers = validated.unwrap_or_else(|_| log_terms::pointers::pointers_zero());
+    let pointers = submission_checks::handed(validated);
     print_pointer(rt, pointers.committed)?;
     print_pointer(rt, pointers.last)?;
     rt.write_all(b"\n")

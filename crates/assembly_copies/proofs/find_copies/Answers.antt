@@ -5,6 +5,8 @@ use native.Mathlib.Omega.{arith}
 use borrow.Author.Rules.{rules}
 use lib.ListN.{length}
 use Rattle.assembly_items.proofs.Items.{stands}
+use Rattle.assembly_copies.specs.Rows.{Placed}
+use Rattle.assembly_copies.specs.Sought.{CopiesFound}
 use Rattle.assembly_copies.proofs.Walks.{item_lies, searched_room, walked_none, walked_all, never, walked-unlike, walked-taken}
 use Rattle.assembly_copies.proofs.find_copies.Goals as goal
 
@@ -13,6 +15,16 @@ overflow_mul-sought c = omega (arith, c.requires.cells)
 
 pub clear-requires : goal.clear-requires
 clear-requires c = c.requires.cells
+
+pub returns-then-sought-eq0 : goal.returns-then-sought-eq0
+unfolding CopiesFound Placed
+returns-then-sought-eq0 c =
+    let none = c.if-sought-eq0.true in
+    record {
+      copies = λ m h. absurd (omega (arith, h, none));
+      placed = λ j h. absurd (omega (arith, h, none));
+      room = c.clear.ensures.room;
+    }
 
 pub loop-at-init : goal.loop-at-init
 loop-at-init c =
