@@ -11,14 +11,14 @@ use borrow.Author.Tests.{ltb-true, ltb-false, leb-true, leb-false, lt-ltb, le-lt
 use lib.Dec.{ltb, leb}
 use lib.ListN.{length, get_or, take, drop, length-drop, drop_of_length-le, get_or-eq_default}
 use lib.Seq.{drop-drop, get_or-drop}
-use Rattle.std.specs.Prelude.{Some, None}
+use Rattle.std.specs.Prelude.{Option, Some, None, MatchOption}
 use Rattle.words.specs.BigEndian.{number_at}
 use Rattle.refusal.specs.Checks.{all}
 use Rattle.refusal.proofs.Laws.{look}
 use Rattle.assembly.specs.Items.{Item, statement_size, first_size, item_size, first_item, items_after, items_of, whole_after, whole}
 use Rattle.assembly.proofs.Whole.{whole-first, items-next as next-items, whole-next as next-whole}
 use Rattle.assembly_items.specs.declared.ItemPlace.{ItemPlace}
-use Rattle.assembly_items.specs.Reader.{item_reading, item_of}
+use Rattle.assembly_items.specs.Reader.{item_at, item_reading, item_of}
 
 not-zero : (n : ℕ) → (n ≡ 0 → ⊥) → 0 < n
 not-zero n h = omega (arith, h)
@@ -67,6 +67,13 @@ module _ (w S : ℕ) (item_bytes : List ℕ) (at : ℕ) where
   pub cut_off : length item_bytes < at + 2 + size_at + S → None ≡ item_reading w S item_bytes at
   unfolding item_reading all
   cut_off h = ⊎_elim (λ (e : ltb 0 size_at ≡ true). rw (e, lt-leb _ _ h)) (λ (e : ltb 0 size_at ≡ false). rw e) (look (ltb 0 size_at))
+
+  -- from what the code gives, once it has the bytes of the statement
+  pub placed : (r : Option ItemPlace) (size : ℕ) → size ≡ size_at → 0 < size
+      → MatchOption r (length item_bytes < at + 2 + size + S) (λ i. (i ≡ item_at S item_bytes at size) × (at + 2 + size + S ≤ length item_bytes))
+      → r ≡ item_reading w S item_bytes at
+  placed None size e more h = cut_off (rw e at h)
+  placed (Some i) size e more h = ap Some h.0 ∙ reads refl e (λ z. omega (arith, z, more)) h.1
 
   read-says : {i : ItemPlace} → item_reading w S item_bytes at ≡ Some i → (i ≡ place_at) × (0 < size_at) × (at + 2 + size_at + S ≤ length item_bytes)
   read-says e =

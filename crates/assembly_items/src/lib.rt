@@ -2,12 +2,14 @@
 // and check 19. Over the term's width and the signature's length.
 #![tactic(auto)]
 
-ghost use Rattle.std.specs.Prelude.{◌≡◌, ◌≤◌, ◌<◌, length, MatchOption};
+ghost use Rattle.std.specs.Prelude.{◌≡◌, ◌+◌, ◌≤◌, ◌<◌, length, MatchOption};
 ghost use Rattle.words.specs.Widths.{width_most};
 ghost use Rattle.roster.specs.Sizes.{signature_most};
 ghost use Rattle.assembly.specs.Items as paper;
 ghost use Rattle.submission.specs.Sizes.{statement_most};
-ghost use Rattle.assembly_items.specs.Reader.{item_reading};
+ghost use Rattle.assembly_items.specs.Reader.{item_at, item_reading};
+
+use log_chain::Kind;
 
 // Where the statement stands in an item, after the replica's number.
 const STATEMENT_AT: usize = 2;
@@ -21,31 +23,14 @@ pub struct ItemPlace {
     pub next: usize,
 }
 
-// The bytes of a statement by its kind; none for no kind. (Not by `Kind::try_from`: of its answer the
-// compiler makes a choice without a branch, so that the place of the next item waits for this one's kind
-// byte, and a walk over a large bag takes two to ten times as long.)
-fn statement_size(width: usize, kind: u8) -> Option<usize>
-    requires { width ≤ width_most }
-    ensures { MatchOption result (paper.statement_size width kind ≡ 0)
-        (λ s. (s ≡ paper.statement_size width kind) × (0 < s) × (s ≤ statement_most)) }
-{
-    let name = log_chain::NAME_AT + roster::NAME_SIZE;
-    match kind {
-        1 => Some(name + width + log_chain::INDEX_SIZE + log_chain::POINTER_SIZE),
-        2 => Some(name + width + log_chain::INDEX_SIZE + log_chain::POINTER_SIZE),
-        3 => Some(name + submission::ballot_size(width)),
-        _ => None,
-    }
-}
-
-// The item at a place; none where its kind is none or the bag ends inside it.
-pub fn read(items: &[u8], at: usize, width: usize, size: usize) -> Option<ItemPlace>
-    requires { (at ≤ length items.now) × (width ≤ width_most) × (size ≤ signature_most) }
-    ensures { result ≡ item_reading width size items.now at }
+// The item at a place, of a statement of so many bytes; none where the bag ends inside it.
+fn place(items: &[u8], at: usize, bytes: usize, size: usize) -> Option<ItemPlace>
+    requires { (at + 2 < length items.now) × (bytes ≤ statement_most) × (size ≤ signature_most) }
+    ensures { MatchOption result (length items.now < at + 2 + bytes + size)
+        (λ i. (i ≡ item_at size items.now at bytes) × (at + 2 + bytes + size ≤ length items.now)) }
 {
     let statement = at + STATEMENT_AT;
-    let kind = *items.get(statement)?;
-    let signature = statement + statement_size(width, kind)?;
+    let signature = statement + bytes;
     let next = signature + size;
     if items.len() < next {
         return None;
@@ -57,6 +42,27 @@ pub fn read(items: &[u8], at: usize, width: usize, size: usize) -> Option<ItemPl
         signature,
         next,
     })
+}
+
+// The item at a place; none where its kind is none or the bag ends inside it. (Each size goes to a call of
+// its own: of one size for all kinds the compiler may make a choice without a branch, so that the place of
+// the next item waits for this one's kind byte, and a walk over a large bag takes several times as long.)
+pub fn read(items: &[u8], at: usize, width: usize, size: usize) -> Option<ItemPlace>
+    requires { (at ≤ length items.now) × (width ≤ width_most) × (size ≤ signature_most) }
+    ensures { result ≡ item_reading width size items.now at }
+{
+    let kind = *items.get(at + STATEMENT_AT)?;
+    let Ok(kind) = Kind::try_from(kind) else {
+        return None;
+    };
+    let name = log_chain::NAME_AT + roster::NAME_SIZE;
+    match kind {
+        Kind::Stamp | Kind::Receipt => {
+            let bytes = name + width + log_chain::INDEX_SIZE + log_chain::POINTER_SIZE;
+            place(items, at, bytes, size)
+        }
+        Kind::Vote => place(items, at, name + submission::ballot_size(width), size),
+    }
 }
 
 // 19: whether every kind byte is 1, 2 or 3, and the bag does not end inside an item.

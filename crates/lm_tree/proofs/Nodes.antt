@@ -4,11 +4,11 @@
 use mathlib.Core.Path.{◌≡◌, sym, ap, ◌∙◌}
 use Rattle.std.proofs.Common.{ap₂}
 use mathlib.Core.List.{List, ◌++◌, append-nil}
-use Prim.Native.Nat.{ℕ, zero, suc, ◌+◌, ◌/◌, ◌^◌, ◌≤◌, ◌<◌}
+use Prim.Native.Nat.{ℕ, zero, suc, ◌+◌, ◌-◌, ◌/◌, ◌^◌, ◌≤◌, ◌<◌}
 use native.Mathlib.Nat.{one-mul, div-one, div-le_self}
 use native.Mathlib.Omega.{arith}
 use lib.ListN.{length, take, drop, length-append, drop_of_length-le}
-use lib.Seq.{take_at, drop_at}
+use lib.Seq.{drop-drop, take_at, drop_at}
 use lib.Pow.{high, shr-shr}
 use Rattle.lm_hash.specs.Tagged.{tagged}
 use Rattle.lm_tree.specs.Tree.{D-LEAF, parent, climb, root}
@@ -21,13 +21,24 @@ last_node h q inside = ap (λ (n : ℕ). (n + q) / 2 ^ h) (sym (one-mul (2 ^ h))
 
 -- ---- one level
 
--- the first of the siblings, then those after it
-pub climb-first : (I : List ℕ) (node : ℕ) (tmp sibling path : List ℕ) → length sibling ≡ 32
-    → climb I (length (sibling ++ path) / 32) node tmp (sibling ++ path) ≡ climb I (length path / 32) (node / 2) (parent I node tmp sibling) path
+-- the first of the levels, then those after it
+pub climb-first : (I : List ℕ) (left node : ℕ) (tmp path : List ℕ) (at : ℕ) → 0 < left
+    → climb I left node tmp (drop at path)
+    ≡ climb I (left - 1) (node / 2) (parent I node tmp (take 32 (drop at path))) (drop (at + 32) path)
 unfolding climb
-climb-first I node tmp sibling path h =
-    let count : length (sibling ++ path) / 32 ≡ suc (length path / 32) = rw length-append (omega (arith, h)) in
-    ap (λ (n : ℕ). climb I n node tmp (sibling ++ path)) count
+climb-first I left node tmp path at h =
+    let count : left ≡ suc (left - 1) = omega arith in
+    ap (λ (n : ℕ). climb I n node tmp (drop at path)) count ∙ rw (← drop-drop 32 at path)
+
+-- by its sibling
+pub climb-sibling : (I : List ℕ) (node : ℕ) (tmp sibling path : List ℕ) → length sibling ≡ 32
+    → climb I (length (sibling ++ path) / 32) node tmp (sibling ++ path) ≡ climb I (length path / 32) (node / 2) (parent I node tmp sibling) path
+climb-sibling I node tmp sibling path h =
+    let left = length (sibling ++ path) / 32 in
+    let more : 0 < left = rw length-append (omega (arith, h)) in
+    let fewer : left - 1 ≡ length path / 32 = rw length-append (omega (arith, h)) in
+    climb-first I left node tmp (sibling ++ path) 0 more
+    ∙ ap (λ (n : ℕ). climb I n (node / 2) (parent I node tmp (take 32 (sibling ++ path))) (drop 32 (sibling ++ path))) fewer
     ∙ ap₂ (λ (s p : List ℕ). climb I (length path / 32) (node / 2) (parent I node tmp s) p) (take_at sibling path 32 h)
     (drop_at sibling path 32 h)
 

@@ -1,6 +1,6 @@
 -- The pointers that validation hands on: of a refusal, and of an accepted submission; and of a form they have the term's width alone.
 -- Assumes nothing.
-use mathlib.Core.Path.{◌≡◌, refl, sym, ◌∙◌}
+use mathlib.Core.Path.{◌≡◌, sym, ◌∙◌}
 use mathlib.Core.List.{[]}
 use Prim.Native.Nat.{ℕ}
 use borrow.Author.Tests.{ne_eqb}

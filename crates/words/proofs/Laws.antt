@@ -4,7 +4,7 @@ use mathlib.Core.Path.{◌≡◌, refl, sym, ap, ◌∙◌}
 use mathlib.Core.List.{List, [], ◌∷◌, ◌++◌, append_assoc}
 use mathlib.Core.Logic.{◌⊎◌, inl, inr}
 use Prim.Native.Nat.{ℕ, zero, suc, ◌+◌, ◌-◌, ◌*◌, ◌/◌, ◌%◌, ◌^◌, ◌≤◌, ◌<◌}
-use native.Mathlib.Nat.{add-zero, add-suc, add_comm, add-mul-div_right, mul-add-mod_self_right, le_refl, zero-mul, add-mul, mul_assoc, zero-add, suc-add, pow-le-pow_right, div-eq_of_lt, lt_of_lt_of_le, add_assoc, mod-lt, mod-one, mod-eq_of_lt, pow-suc, pow-succ', div-one}
+use native.Mathlib.Nat.{add-zero, add-suc, add_comm, add-mul-div_right, mul-add-mod_self_right, le_refl, zero-mul, add-mul, mul_assoc, zero-add, suc-add, pow-le-pow_right, div-eq_of_lt, lt_of_lt_of_le, add_assoc, mod-lt, mod-one, mod-eq_of_lt, pow-suc, pow-succ', div-one, mul_comm, div-div-eq-div-mul}
 use native.Mathlib.Numerals.{add-one}
 use native.Mathlib.Omega.{arith}
 use Rattle.std.specs.Int.{w16, w32, w64, to_be_bytes}
@@ -253,6 +253,14 @@ pub be_drop : (k w n : ℕ) → drop k (be (k + w) n) ≡ be w n
 unfolding be
 be_drop zero w n = rw zero-add
 be_drop (suc k) w n = rw suc-add (be_drop k w n)
+
+-- the lowest byte, and those before it
+pub be_snoc : (w n : ℕ) → be (suc w) n ≡ be w (n / 256) ++ (n % 256 ∷ [])
+unfolding be
+be_snoc zero n = rw div-one
+be_snoc (suc w) n =
+    let first : n / 256 ^ suc w % 256 ≡ n / 256 / 256 ^ w % 256 = rw (pow-suc, mul_comm (256 ^ w) 256, ← div-div-eq-div-mul) in
+    rw first (ap (λ (l : List ℕ). n / 256 / 256 ^ w % 256 ∷ l) (be_snoc w n))
 
 -- the bytes of 16, 32 and 64 bits
 pub two_bytes : (n : ℕ) → to_be_bytes w16 n ≡ be 2 n

@@ -76,8 +76,8 @@ pub fn put_number(out: &mut [u8], at: usize, width: usize, x: u64)
     put_bytes(out, at, &x.to_be_bytes()[WIDTH_MOST - width..]);
 }
 
-// Writes some bytes to a place. (Not by `copy_from_slice`: of that, where the length is not known to it, the
-// compiler makes a call of `memmove`, which the library in C asks nobody for.)
+// Writes some bytes to a place. (Not by `copy_from_slice`: where it knows neither the length nor that the two
+// lie apart, the compiler makes of that a call of `memmove`, which the library in C asks nobody for.)
 pub fn put_bytes(out: &mut [u8], at: usize, bytes: &[u8])
     requires { at + length bytes.now ≤ length out.old }
     ensures { out.new ≡ sets out.old at bytes.now }

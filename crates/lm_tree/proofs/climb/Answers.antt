@@ -9,7 +9,7 @@ use Rattle.std.specs.Slice.Iter.{chunks_exact_rest}
 use Rattle.sha256.specs.Sha256.{bytes_of}
 use Rattle.lm_hash.specs.Identifier.{identifier}
 use Rattle.lm_tree.specs.Tree.{climb}
-use Rattle.lm_tree.proofs.Nodes.{climb-first, climb-end}
+use Rattle.lm_tree.proofs.Nodes.{climb-sibling, climb-end}
 use Rattle.lm_tree.proofs.climb.Goals as goal
 
 pub loop-sibling-preserved : goal.loop-sibling-preserved
@@ -21,7 +21,7 @@ loop-sibling-preserved c =
     let steps = c.in-Some.ensures.steps in
     let long : length sibling ≡ 32 = steps.1.1 ∙ l.invariant.0 in
     let all =
-    sym (climb-first I l.node (bytes_of l.t) sibling rest long)
+    sym (climb-sibling I l.node (bytes_of l.t) sibling rest long)
     ∙ ap (λ (left : List ℕ). climb I (length left / 32) l.node (bytes_of l.t) left) (sym steps.1.0)
     ∙ l.invariant.1 in
     (steps.0 ∙ l.invariant.0, rw (c.parent-t.ensures, c.value_at.ensures, take_all 32 sibling (omega arith)) all)
