@@ -7,12 +7,15 @@ use mathlib.Core.List.{List, [], ◌∷◌}
 use mathlib.Core.Logic.{⊎_elim}
 use Prim.Native.Nat.{ℕ, ◌+◌, ◌-◌, ◌≤◌, ◌<◌}
 use native.Mathlib.Omega.{arith}
-use borrow.Author.Tests.{ltb-true, ltb-false, leb-true, leb-false, lt-ltb, le-ltb, le-leb, lt-leb}
+use borrow.Author.Tests.{ne_eqb, ltb-true, ltb-false, leb-true, leb-false, lt-ltb, le-ltb, le-leb, lt-leb}
 use lib.Dec.{ltb, leb}
 use lib.ListN.{length, get_or, take, drop, length-drop, drop_of_length-le, get_or-eq_default}
 use lib.Seq.{drop-drop, get_or-drop}
 use Rattle.std.specs.Prelude.{Option, Some, None, MatchOption}
 use Rattle.words.specs.BigEndian.{number_at}
+use Rattle.log_chain.specs.declared.Kind.{Kind}
+use Rattle.log_chain.specs.declared.Kind.TheVariants.{Stamp, Receipt, Vote}
+use Rattle.log_chain.specs.Kinds.{byte_of}
 use Rattle.refusal.specs.Checks.{all}
 use Rattle.refusal.proofs.Laws.{look}
 use Rattle.assembly.specs.Items.{Item, statement_size, first_size, item_size, first_item, items_after, items_of, whole_after, whole}
@@ -44,7 +47,7 @@ module _ (w S : ℕ) (item_bytes : List ℕ) (at : ℕ) where
   size_at = statement_size w (get_or item_bytes (at + 2) 0)
 
   abbrev place_at : ItemPlace
-  place_at = record { replica = number_at 2 item_bytes at; statement = at + 2; signature = at + 2 + size_at; next = at + 2 + size_at + S }
+  place_at = item_at S item_bytes at size_at
 
   read : 0 < size_at → at + 2 + size_at + S ≤ length item_bytes → Some place_at ≡ item_reading w S item_bytes at
   unfolding item_reading all
@@ -68,12 +71,19 @@ module _ (w S : ℕ) (item_bytes : List ℕ) (at : ℕ) where
   unfolding item_reading all
   cut_off h = ⊎_elim (λ (e : ltb 0 size_at ≡ true). rw (e, lt-leb _ _ h)) (λ (e : ltb 0 size_at ≡ false). rw e) (look (ltb 0 size_at))
 
-  -- from what the code gives, once it has the bytes of the statement
-  pub placed : (r : Option ItemPlace) (size : ℕ) → size ≡ size_at → 0 < size
+  -- where the byte is no kind's
+  pub unknown : ((k : Kind) → byte_of k ≡ get_or item_bytes (at + 2) 0 → ⊥) → None ≡ item_reading w S item_bytes at
+  unfolding statement_size
+  unknown other =
+      let byte = get_or item_bytes (at + 2) 0 in
+      no_kind (rw (ne_eqb byte 1 (λ e. other Stamp (sym e)), ne_eqb byte 2 (λ e. other Receipt (sym e)), ne_eqb byte 3 (λ e. other Vote (sym e))) refl)
+
+  -- where it is, from what the code gives for the bytes of that kind's statement
+  pub placed : (r : Option ItemPlace) (k : Kind) (size : ℕ) → byte_of k ≡ get_or item_bytes (at + 2) 0 → size ≡ statement_size w (byte_of k) → 0 < size
       → MatchOption r (length item_bytes < at + 2 + size + S) (λ i. (i ≡ item_at S item_bytes at size) × (at + 2 + size + S ≤ length item_bytes))
       → r ≡ item_reading w S item_bytes at
-  placed None size e more h = cut_off (rw e at h)
-  placed (Some i) size e more h = ap Some h.0 ∙ reads refl e (λ z. omega (arith, z, more)) h.1
+  placed None k size byte e more h = cut_off (rw (e ∙ ap (statement_size w) byte) at h)
+  placed (Some i) k size byte e more h = ap Some h.0 ∙ reads refl (e ∙ ap (statement_size w) byte) (λ z. omega (arith, z, more)) h.1
 
   read-says : {i : ItemPlace} → item_reading w S item_bytes at ≡ Some i → (i ≡ place_at) × (0 < size_at) × (at + 2 + size_at + S ≤ length item_bytes)
   read-says e =
